@@ -32,7 +32,7 @@ PROGRAM = os.path.join(TOP, "crates", "buckfleet", "out", "buckfleet")
 SESSIONS = ("README.md", "docs/GUIDE.md", "docs/COMMANDS.md", "docs/FORMATS.md", "docs/FAULTS.md")
 
 # The sections of the guide in which each figure in percent, and each line of a table of figures, is measured here.
-GROUNDED = ("Choose rule, limit and period", "What a stand can't give")
+GROUNDED = ("Choose rule, limit and period", "What a stand can't give", "Before the season: prices from a stem bank")
 FIGURES = r"\d %|^\| (?:[a-z ]+ \| )?[\d,]+ \| \d"
 
 # The diameter at a relative distance from the top, as a part of that at a fifth of the height, by the taper curves of
@@ -203,8 +203,8 @@ class Lab:
     def rows(self, *words):
         return csv.DictReader(io.StringIO(self.run(*words)))
 
-    def stems(self, stems):
-        return self.file("stm", "1 2 STM~\n" + "".join(text for _, text in stems))
+    def stems(self, stems, name="stm"):
+        return self.file(name, "1 2 STM~\n" + "".join(text for _, text in stems))
 
     def classes(self, text, stm, rule="steady"):
         """The species of each row of saw logs, with the target and the count of each of its classes."""
@@ -224,26 +224,34 @@ class Lab:
             found[species].append([count for _, count in row])
         return found
 
-    def sweep(self, text, stm, rules, periods, limits):
+    def sweep(self, text, stm, rules, periods, limits, *own):
         """The lines of a sweep."""
-        words = [word for rule in rules for word in ("--rule", rule)]
+        words = [word for rule in rules for word in ("--rule", rule)] + list(own)
         words += ["--period", ",".join(map(str, periods)), "--limit", ",".join(map(str, limits))]
         return self.rows("sweep", *words, self.file("apt", text), stm)
 
-    def figures(self, text, stm, cut, rules, periods, limits):
+    def figures(self, text, stm, cut, *words):
         """Degree and cost in percent, by rule, period and limit: the degree of the saw logs of both species, weighted
         by the logs that base prices give."""
         found = {}
-        for row in self.sweep(text, stm, rules, periods, limits):
+        for row in self.sweep(text, stm, *words):
             degrees = [(int(row[f"degree_{2 * s - 2} saw {s} 150"] or 0), sum(map(sum, cut[s]))) for s in (1, 2)]
             degree = sum(degree * logs for degree, logs in degrees) / sum(logs for _, logs in degrees) / 100
             found[row["rule"], int(row["period"]), int(row["limit"])] = degree, cost(row)
         return found
 
+    def season(self, text, stems, cut):
+        """The figures of a stand's FIELD by `root`: at 200 as the mill asks, and at 80 as is tuned at 80 on its BANK."""
+        mill, bank, field = self.file("mill", text), self.stems(stems[BANK], "bank"), self.stems(stems[FIELD], "field")
+        found = self.figures(text, field, cut, ("root",), (5,), (200,))
+        tuned = self.run("tune", "--period", "1", "--limit", "80", mill, bank)
+        return {**found, **self.figures(tuned, field, cut, ("root",), (5,), (80,), "--own", mill)}
+
 
 def cost(row):
-    """The cost of steering of a line of a sweep, in percent."""
-    best, got = int(row["best_base_worth_millionths"]), int(row["base_worth_millionths"])
+    """The cost of steering of a line of a sweep, in percent; with --own the loss at those prices."""
+    names = ("own_best", "own") if "own_worth_millionths" in row else ("best_base", "base")
+    best, got = (int(row[f"{name}_worth_millionths"]) for name in names)
     return 100 * (best - got) / best
 
 
@@ -260,8 +268,9 @@ def degree_in_rows(classes):
 
 def measured(lab):
     """Degree and cost by stand, mix, number of stems, rule, period and limit; the same of 1,000 stems, thin ones first,
-    and of 100 stems with fewer classes; and of the lengths in rows that are one assortment, or one each."""
-    runs, order, few, rows = {}, {}, {}, {}
+    of 100 stems with fewer classes, and of 100 stems tuned or not; and of the lengths in rows that are one assortment, or
+    one each."""
+    runs, order, few, tuned, rows = {}, {}, {}, {}, {}
     for name in STANDS:
         stems = stand(name)
         cut = lab.counts(lab.stems(stems))
@@ -279,6 +288,8 @@ def measured(lab):
             if mix in REACHABLE:
                 found = lab.figures(text, lab.stems(sorted(stems[:1000])), cut, RULES, (5,), (1000,))
                 order.update({(name, mix, 1000, *key): value for key, value in found.items()})
+                found = lab.season(text, stems, cut)
+                tuned.update({(name, mix, 100, *key): value for key, value in found.items()})
                 continue
             stm = lab.stems(stems[:1000])
             for rule, split in itertools.product(RULES, (False, True)):
@@ -291,7 +302,7 @@ def measured(lab):
             targets = {species: wanted(mix, cut[species], r, FEW[1]) for species in (1, 2)}
             found = lab.figures(instruction(targets, *FEW), lab.stems(stems[:100]), cut, ("linear",), (5,), (300,))
             few.update({(name, mix, 100, *key): value for key, value in found.items()})
-    return runs, order, few, rows
+    return runs, order, few, tuned, rows
 
 
 def mean(found, *key):
@@ -317,7 +328,7 @@ def tables(runs):
         yield f"| {number:,} | {' | '.join(f'{degree:.0f}' for degree in degrees)} |"
 
 
-def sentences(runs, order, few, rows):
+def sentences(runs, order, few, tuned, rows):
     """The guide's sentences with figures of the stands, and whether what each says holds."""
 
     def at(number, rule, limit, period=5, mixes=REACHABLE, found=runs):
@@ -405,6 +416,12 @@ def sentences(runs, order, few, rows):
         f"{mixed[0]:.0f} % with `linear`, at about the same cost ({own[1]:.1f} %), and {own_step[0]:.0f} % instead of "
         f"{mixed_step[0]:.0f} % with `step`, at {own_step[1]:.1f} % instead of {mixed_step[1]:.1f} %.",
         own[0] > mixed[0] + 2 and own_step[0] > mixed_step[0] + 10 and abs(own[1] - mixed[1]) < 0.2,
+    )
+    mill, made = (at(100, "root", limit, found=tuned) for limit in (200, 80))
+    yield (
+        f"In the four stands above, tuned so, 100 stems reached {made[0]:.0f} % at 80 for {made[1]:.1f} %, untuned "
+        f"{mill[0]:.0f} % at 200 for {mill[1]:.1f} %.",
+        abs(made[0] - mill[0]) < 1 and made[1] < 0.8 * mill[1],
     )
 
 
