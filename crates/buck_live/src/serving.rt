@@ -1,13 +1,11 @@
 //! Whole runs of requests.
 ghost use Rattle.std.specs.Prelude.{◌≡◌, IfOk, IfErr};
-ghost use Rattle.buck_rule.specs.Stored.{Answers};
-ghost use Rattle.buck_rule.specs.GivenBy.{GivesBy};
-ghost use Rattle.buck_book.specs.Pricing.{AreSheetsBy};
 ghost use Rattle.buck_engine.specs.declared.fault.EngineFault.{EngineFault};
-ghost use Rattle.buck_engine.specs.fleet.Lent.{of_writer};
+ghost use Rattle.buck_engine.specs.fleet.Lent.{of_made, of_writer};
+ghost use Rattle.buck_engine.specs.tie.Ties.{FollowsRule};
 ghost use Rattle.buck_cutter.specs.Cut.{opening};
 ghost use Rattle.buck_live.specs.Serving.{KeepsJournal, RunsLive, first_fault};
-ghost use Rattle.buck_live.specs.inner.Served.{IsLiveMade, KeepsMade};
+ghost use Rattle.buck_live.specs.inner.Served.{RanOrNot};
 
 use crate::live::Live;
 use crate::replies::Replies;
@@ -51,7 +49,7 @@ fn keep_journal<F: Drop, J: io::Write + Drop>(
     live: &Live<F>,
     journal: Option<J>,
 ) -> Result<(), EngineFault>
-    ensures { KeepsMade J.contents live.now.history journal result }
+    ensures { of_made J.contents journal (λ kept. KeepsJournal kept live.now.history result) }
 {
     match journal {
         None => Ok(()),
@@ -86,44 +84,24 @@ fn first_fault(
     }
 }
 
-/// Answers requests by a book of an instruction, and then writes its journal, where one is wanted, however that ended.
-fn live_made<F: Fn(&Standing) -> u64 + Drop, R: io::Read, J: io::Write + Drop, W: Replies>(
+/// Answers requests by a book of an instruction and the rule of a name, and then writes its journal, where one is
+/// wanted, however that ended.
+fn live_made<R: io::Read, J: io::Write + Drop, W: Replies>(
     alloc: Global,
     instruction: Instruction,
-    rule: Rule<F>,
+    named: NamedRule,
     input: &mut R,
     journal: Option<J>,
     out: &mut W,
 ) -> Result<(), EngineFault>
-    requires answers { Answers F.Fn rule }
-    ensures { IsLiveMade J.contents (AreSheetsBy F.Fn rule) instruction (R.remaining input.old)
-        (input.new ≡ input.old) journal (W.contents out.old) (W.contents out.new) result }
+    ensures { of_made J.contents journal (λ kept. RanOrNot (FollowsRule named) instruction (R.remaining input.old)
+        (input.new ≡ input.old) kept (W.contents out.old) (W.contents out.new) result) }
 {
+    let rule = Rule::new(move |s: &Standing| named.price(s));
     let mut live = opened(alloc, instruction, rule)?;
     let ran = live.run(alloc, input, out);
     let kept = keep_journal(alloc, &live, journal);
     first_fault(kept, ran)
-}
-
-/// Opens the instruction file by its name, then makes the file of the journal, where one is wanted, and then answers
-/// the requests of the input.
-fn live_files<F: Fn(&Standing) -> u64 + Drop, R: io::Read, O: Open + Make, W: Replies>(
-    alloc: Global,
-    task: &LiveTask<'_>,
-    rule: Rule<F>,
-    input: &mut R,
-    opener: &mut O,
-    out: &mut W,
-) -> Result<(), EngineFault>
-    requires answers { Answers F.Fn rule }
-    requires gives { GivesBy F.Fn rule task.now.rule }
-    ensures { RunsLive O.opens O.makes O.File.remaining O.Made.contents opener.old opener.new task.now
-        (R.remaining input.old) (input.new ≡ input.old) (W.contents out.old) (W.contents out.new) result }
-{
-    let (mut apt, _) = open_inputs(alloc, opener, task.apt, &[])?;
-    let journal = make_journal(opener, task.journal)?;
-    let instruction = read_instruction(alloc, &mut apt)?.with(&task.settings);
-    live_made(alloc, instruction, rule, input, journal, out)
 }
 
 /// Answers the requests of the input, one a line, each before the next is read.
@@ -143,7 +121,8 @@ pub fn serve_live<R: io::Read, O: Open + Make, W: Replies>(
     ensures { RunsLive O.opens O.makes O.File.remaining O.Made.contents opener.old opener.new task.now
         (R.remaining input.old) (input.new ≡ input.old) (W.contents out.old) (W.contents out.new) result }
 {
-    let named = task.rule;
-    let rule = Rule::new(move |s: &Standing| named.price(s));
-    live_files(alloc, task, rule, input, opener, out)
+    let (mut apt, _) = open_inputs(alloc, opener, task.apt, &[])?;
+    let journal = make_journal(opener, task.journal)?;
+    let instruction = read_instruction(alloc, &mut apt)?.with(&task.settings);
+    live_made(alloc, instruction, task.rule, input, journal, out)
 }
