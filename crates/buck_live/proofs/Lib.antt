@@ -1,4 +1,5 @@
 pub mod LineLemmas
+pub mod OwnLemmas
 pub mod AnswerLemmas
 pub mod RunLemmas
 pub mod ServedLemmas

@@ -1,8 +1,17 @@
 -- What is answered to a line of the input by the history so far, and which history comes of it.
-use Rattle.std.specs.Prelude.{◌≡◌, ◌⊎◌, ◌<◌, ℕ, List, [], ◌∷◌, ◌++◌, length, Option, Some, None, Result, Ok, Err, codes}
+use Rattle.std.specs.Prelude.{◌≡◌, ◌⊎◌, ◌<◌, ◌+◌, ℕ, List, [], ◌∷◌, ◌++◌, length, Option, Some, None, Result, Ok, Err, codes}
+use Rattle.std.specs.List.{flat_map}
 use Rattle.buck_record.specs.writing.Line.{line_of}
+use Rattle.buck_record.specs.writing.Written.{spelled}
 use Rattle.buck_stem.specs.declared.file.fault.StmFault.{StmFault}
-use Rattle.buck_stem.specs.Stem.{StemParts}
+use Rattle.buck_stem.specs.Stem.{StemParts, stem_length}
+use Rattle.buck_value.specs.declared.log.Log.{Log}
+use Rattle.buck_value.specs.Sheet.{SheetParts}
+use Rattle.buck_dp.specs.Best.{IsFirstBest, cutting_worth}
+use Rattle.buck_own.specs.Reasons.{reason_name}
+use Rattle.buck_own.specs.Judged.{IsJudged}
+use Rattle.buck_own.specs.declared.judging.Judged.{Judged}
+use Rattle.buck_own.specs.declared.judging.Judged.TheVariants.{Admissible, Refused}
 use Rattle.buck_book.specs.declared.posting.Posting.TheVariants.{Demand}
 use Rattle.buck_book.specs.declared.targets.TargetsFault.{TargetsFault}
 use Rattle.buck_book.specs.declared.targets.TargetsFault.TheVariants.{Count, Range, Sum}
@@ -12,11 +21,11 @@ use Rattle.buck_book.specs.History.{HistoryParts, in_force}
 use Rattle.buck_cutter.specs.Cut.{AnyPrices, HasCut, HasRetargeted}
 use Rattle.buck_engine.specs.declared.fault.EngineFault.TheVariants.{Read, Stm, Full}
 use Rattle.buck_engine.specs.Faults.{fault_line, memory_line}
-use Rattle.buck_engine.specs.text.Bucking.{stem_lines}
+use Rattle.buck_engine.specs.text.Bucking.{log_line, named_line_of, stem_lines}
 use Rattle.buck_engine.specs.text.Report.{posting_line}
 use Rattle.buck_live.specs.Request.{request_of}
 use Rattle.buck_live.specs.declared.request.Asked.{Asked}
-use Rattle.buck_live.specs.declared.request.Asked.TheVariants.{Stem, Targets}
+use Rattle.buck_live.specs.declared.request.Asked.TheVariants.{Stem, Preview, Own, Targets}
 use Rattle.buck_live.specs.declared.request.Request.{Request}
 use Rattle.buck_book.specs.declared.posting.TheConstants.{MOST_POSTINGS}
 
@@ -49,27 +58,59 @@ pub record RefusesTargets (before : HistoryParts) (targets : List ℕ) (text : L
   pub text_is : text ≡ line_of (codes "targets fault") (targets_numbers fault)
   pub same : after ≡ before
 
--- what is answered where a posting has room
-abbrev pub AnswersAsked : HistoryParts → ℕ → Asked → List ℕ → HistoryParts → Type 0
-AnswersAsked before harvester (Stem stem) text after = CutsStem before harvester stem text after
-AnswersAsked before harvester (Targets targets) text after =
-    TakesTargets before harvester targets text after ⊎ RefusesTargets before targets text after
-
 -- a text is answered, and nothing changes
 abbrev pub SaysOnly : List ℕ → HistoryParts → List ℕ → HistoryParts → Type 0
 SaysOnly words before text after = (text ≡ words) × (after ≡ before)
 
--- what is answered to a request: that the history is full, or what is asked for
-abbrev pub AnswersRequest : HistoryParts → Request → List ℕ → HistoryParts → Type 0
-AnswersRequest before r text after =
+-- PREVIEW <stem number> <stem length> <number of logs> <worth>, and a line for each log
+abbrev pub preview_lines : SheetParts → StemParts → List Log → List ℕ
+preview_lines sheet stem logs =
+    line_of (codes "PREVIEW") (stem.number ∷ stem_length stem.samples ∷ length logs ∷ cutting_worth sheet stem logs ∷ [])
+    ++ flat_map (log_line sheet stem) logs
+
+-- a stem is previewed: the first of the best cuttings under the sheet in force, with the worths of that sheet
+pub record PreviewsStem (before : HistoryParts) (stem : StemParts) (text : List ℕ) : Type 0 where
+  pub logs : List Log
+  pub best : IsFirstBest (in_force before) stem logs
+  pub text_is : text ≡ preview_lines (in_force before) stem logs
+
+-- OWN <stem number> <number of logs> <worth> <best worth> of a cutting that is admissible, and else
+-- OWN <stem number> not <log> <reason>, the first log that can't be cut, from 1
+abbrev pub own_line : StemParts → List Log → ℕ → Judged → List ℕ
+own_line stem own best (Admissible worth) = line_of (codes "OWN") (stem.number ∷ length own ∷ worth ∷ best ∷ [])
+own_line stem own best (Refused log reason) =
+    codes "OWN" ++ (spelled (stem.number ∷ []) ++ named_line_of (codes " not") ((log + 1) ∷ []) (reason_name reason))
+
+-- an operator's own logs of a stem are priced, or the first that can't be cut is named; beside it the worth of the best
+-- cutting, all of it under the sheet in force
+pub record JudgesOwn (before : HistoryParts) (stem : StemParts) (own : List Log) (text : List ℕ) : Type 0 where
+  pub judged : Judged
+  pub is_judged : IsJudged (in_force before) stem own judged
+  pub best : List Log
+  pub is_best : IsFirstBest (in_force before) stem best
+  pub text_is : text ≡ own_line stem own (cutting_worth (in_force before) stem best) judged
+
+-- what is answered where a posting has room, and that the history is full where it hasn't
+abbrev pub IfRoom : HistoryParts → List ℕ → HistoryParts → Type 0 → Type 0
+IfRoom before text after Posts =
     ((length before.postings ≡ MOST_POSTINGS) × SaysOnly (fault_line Full) before text after)
-    ⊎ ((length before.postings < MOST_POSTINGS) × AnswersAsked before r.harvester r.asked text after)
+    ⊎ ((length before.postings < MOST_POSTINGS) × Posts)
+
+-- what is answered to what is asked for; a stem that is looked at only needs no room, and nothing changes
+abbrev pub AnswersAsked : HistoryParts → ℕ → Asked → List ℕ → HistoryParts → Type 0
+AnswersAsked before harvester (Stem stem) text after =
+    IfRoom before text after (CutsStem before harvester stem text after)
+AnswersAsked before harvester (Preview stem) text after = PreviewsStem before stem text × (after ≡ before)
+AnswersAsked before harvester (Own stem logs) text after = JudgesOwn before stem logs text × (after ≡ before)
+AnswersAsked before harvester (Targets targets) text after =
+    IfRoom before text after
+    (TakesTargets before harvester targets text after ⊎ RefusesTargets before targets text after)
 
 -- what is answered to a line by what it asks for: nothing to one that asks for nothing, and to one that is refused the
 -- line of its fault, as of a file with the number 1
 abbrev pub AnswersRead : HistoryParts → Result (Option Request) StmFault → List ℕ → HistoryParts → Type 0
 AnswersRead before (Ok None) text after = SaysOnly [] before text after
-AnswersRead before (Ok (Some request)) text after = AnswersRequest before request text after
+AnswersRead before (Ok (Some r)) text after = AnswersAsked before r.harvester r.asked text after
 AnswersRead before (Err fault) text after = SaysOnly (fault_line (Stm 1 fault)) before text after
 
 -- what is answered to a line; that memory ran out may come in the place of each answer

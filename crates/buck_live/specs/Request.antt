@@ -5,11 +5,15 @@
 --   HARVESTER   the harvester; where it is absent,    1                  1 to 64         before the others
 --               the first
 --   STEM ..     a stem: its four items, as in a stem file
+--   PREVIEW     the stem is previewed                 1                  1
+--   OWN         the logs that an operator would cut,  three for each     0 to HIGHEST, by
+--               each as start, length, assortment     of at most         turns
+--                                                     MOST_OWN
 --   TARGETS     new targets                           any                any
 --
--- A line asks for one thing, a stem to be cut or new targets. Items that aren't in the table say nothing, and a line
--- with no item at all asks for nothing. Line 2 has no fault here: nobody says the kind of a line.
-use Rattle.std.specs.Prelude.{ℕ, Bool, ◌&&◌, ◌==◌, List, [], ◌∷◌, ◌++◌, length, slice_index, not, nat_le, nat_lt, Option, Some, None, Result, Ok, Err, codes, if◌then◌else◌}
+-- A line asks for one thing: a stem to be cut, or looked at only, or new targets. Items that aren't in the table say
+-- nothing, and a line with no item at all asks for nothing. Line 2 has no fault here: nobody says the kind of a line.
+use Rattle.std.specs.Prelude.{ℕ, Bool, true, false, ◌&&◌, ◌==◌, ◌*◌, ◌%◌, List, [], ◌∷◌, ◌++◌, length, slice_index, not, nat_le, nat_lt, Option, Some, None, Result, Ok, Err, codes, if◌then◌else◌}
 use Rattle.std.specs.List.{flat_map}
 use Rattle.buck_record.specs.Item.{ItemParts}
 use Rattle.buck_record.specs.declared.slot.Slot.{Slot}
@@ -17,17 +21,19 @@ use Rattle.buck_record.specs.Reading.{with_fault}
 use Rattle.buck_record.specs.bytes.Record.{items_of}
 use Rattle.buck_record.specs.checking.Table.{count_in, first_missing, first_twice, is_in}
 use Rattle.buck_record.specs.checking.Check.{◌>>=◌, check, none_of}
-use Rattle.buck_record.specs.checking.Rules.{of_slot, has_no_strays, numbers_in, all_within}
+use Rattle.buck_record.specs.checking.Rules.{of_slot, has_no_strays, numbers_in, all_within, all_in_range}
 use Rattle.buck_record.specs.writing.Written.{spelled}
-use Rattle.buck_stem.specs.declared.file.slots.TheConstants.{STEM, NEEDED, MEMBERS}
+use Rattle.buck_stem.specs.declared.file.slots.TheConstants.{STEM, NEEDED}
 use Rattle.buck_stem.specs.declared.file.fault.StmFault.{StmFault}
 use Rattle.buck_stem.specs.declared.file.fault.StmFault.TheVariants.{Head, Missing, Twice, Digits, Range, Order, Count}
 use Rattle.buck_stem.specs.file.Faults.{stm_numbers}
 use Rattle.buck_stem.specs.Stem.{StemParts}
 use Rattle.buck_stem.specs.file.Stm.{stm_of}
-use Rattle.buck_live.specs.declared.slots.TheConstants.{HARVESTER, TARGETS, STEM_ITEMS, ASKED, TABLE}
+use Rattle.buck_value.specs.declared.log.Log.{Log}
+use Rattle.buck_journal.specs.reading.Journal.{logs_of}
+use Rattle.buck_live.specs.declared.slots.TheConstants.{HARVESTER, PREVIEW, OWN, HIGHEST_START, HIGHEST_LENGTH, HIGHEST_ASSORTMENT, MOST_OWN, TARGETS, STEM_ITEMS, AFTER_STEM, ASKED, TABLE}
 use Rattle.buck_live.specs.declared.request.Asked.{Asked}
-use Rattle.buck_live.specs.declared.request.Asked.TheVariants.{Stem, Targets}
+use Rattle.buck_live.specs.declared.request.Asked.TheVariants.{Stem, Preview, Own, Targets}
 use Rattle.buck_live.specs.declared.request.Request.{Request}
 
 -- some item stands in a slot
@@ -43,7 +49,7 @@ all_there items =
 -- Line 3, Missing: no item of a stem stands before its number, and what is asked for is all there.
 unfoldable pub present : List ItemParts → Result (Unit {0}) StmFault
 present items = do
-  _ ← check (has_no_strays STEM MEMBERS items) (of_slot Missing STEM)
+  _ ← check (has_no_strays STEM AFTER_STEM items) (of_slot Missing STEM)
   all_there items
 
 -- Line 4, Twice: no item stands twice, and targets don't stand beside a stem.
@@ -78,20 +84,43 @@ abbrev pub stem_file : List ItemParts → List ℕ
 stem_file items = codes "1 2 STM~" ++ flat_map stem_text items
 
 -- the stem of a stem file that has one
-abbrev pub only_stem : Result (List StemParts) StmFault → Result Asked StmFault
-only_stem (Ok (stem ∷ [])) = Ok (Stem stem)
+abbrev pub only_stem : Result (List StemParts) StmFault → Result StemParts StmFault
+only_stem (Ok (stem ∷ [])) = Ok stem
 only_stem (Ok _) = Err (of_slot Missing STEM)
 only_stem (Err fault) = Err fault
 
--- the targets that an item has
-unfoldable pub targets_in : List ItemParts → Result Asked StmFault
-targets_in items = numbers_in Digits TARGETS items >>= λ targets. Ok (Targets targets)
+-- Lines 5 to 8 of the item that asks for a preview.
+unfoldable pub named_preview : List ItemParts → Result Bool StmFault
+named_preview items = do
+  numbers ← numbers_in Digits PREVIEW items
+  _ ← all_in_range Range PREVIEW numbers
+  _ ← check (length numbers == 1) (of_slot Count PREVIEW)
+  Ok true
 
--- Lines 5 to 8 of what is asked for: numbers as targets, or else a stem, which is refused as its stem file is.
-unfoldable pub asked_in : List ItemParts → Result Asked StmFault
-asked_in items =
-    if has TARGETS items then targets_in items
-    else only_stem (stm_of (stem_file items))
+-- whether a preview is asked for
+abbrev pub preview_in : List ItemParts → Result Bool StmFault
+preview_in items = if has PREVIEW items then named_preview items else Ok false
+
+-- no number is above its bound, and three bounds take turns
+abbrev pub in_turn : ℕ → ℕ → ℕ → List ℕ → Bool
+in_turn first second third [] = true
+in_turn first second third (n ∷ ns) = nat_le n first && in_turn second third first ns
+
+-- no start, length or assortment is above the highest; those of a last log that isn't whole take part
+abbrev pub are_low : List ℕ → Bool
+are_low numbers = in_turn HIGHEST_START HIGHEST_LENGTH HIGHEST_ASSORTMENT numbers
+
+-- Lines 5 to 8 of the item that has an operator's own logs.
+unfoldable pub named_own : List ItemParts → Result (Option (List Log)) StmFault
+named_own items = do
+  numbers ← numbers_in Digits OWN items
+  _ ← check (are_low numbers) (of_slot Range OWN)
+  _ ← check (length numbers % 3 == 0 && nat_le (length numbers) (3 * MOST_OWN)) (of_slot Count OWN)
+  Ok (Some (logs_of numbers))
+
+-- an operator's own logs, where there are any
+abbrev pub own_in : List ItemParts → Result (Option (List Log)) StmFault
+own_in items = if has OWN items then named_own items else Ok None
 
 -- the number of a fault's line, from its number and fields
 abbrev pub number_of_line : List ℕ → ℕ
@@ -102,12 +131,31 @@ number_of_line (number ∷ fields) = number
 abbrev pub earlier : StmFault → StmFault → StmFault
 earlier e f = if nat_le (number_of_line (stm_numbers e)) (number_of_line (stm_numbers f)) then e else f
 
--- who asks, and for what; or the fault of the earlier line
-abbrev pub both : Result ℕ StmFault → Result Asked StmFault → Result Request StmFault
-both (Ok harvester) (Ok asked) = Ok (record { harvester = harvester; asked = asked })
-both (Ok harvester) (Err f) = Err f
-both (Err e) (Ok asked) = Err e
+-- what two items say, or the fault of the earlier line
+abbrev pub both : {A B : Type 0} → Result A StmFault → Result B StmFault → Result (A × B) StmFault
+both (Ok a) (Ok b) = Ok (a, b)
+both (Ok a) (Err f) = Err f
+both (Err e) (Ok b) = Err e
 both (Err e) (Err f) = Err (earlier e f)
+
+-- what is asked of a stem: logs of the operator's own come before a preview, and that before the cut
+abbrev pub asked_of : StemParts → Bool → Option (List Log) → Asked
+asked_of stem previewed (Some logs) = Own stem logs
+asked_of stem previewed None = if previewed then Preview stem else Stem stem
+
+-- Lines 5 to 8 of a stem, which is refused as its stem file is, and of what else is asked of it.
+unfoldable pub stem_in : List ItemParts → Result Asked StmFault
+stem_in items = do
+  found ← both (only_stem (stm_of (stem_file items))) (both (preview_in items) (own_in items))
+  Ok (asked_of found.0 found.1.0 found.1.1)
+
+-- the targets that an item has
+unfoldable pub targets_in : List ItemParts → Result Asked StmFault
+targets_in items = numbers_in Digits TARGETS items >>= λ targets. Ok (Targets targets)
+
+-- Lines 5 to 8 of what is asked for: numbers as targets, or else a stem.
+unfoldable pub asked_in : List ItemParts → Result Asked StmFault
+asked_in items = if has TARGETS items then targets_in items else stem_in items
 
 -- what the items of a line ask for, where there are any
 unfoldable pub requested : List ItemParts → Result (Option Request) StmFault
@@ -115,8 +163,8 @@ requested [] = Ok None
 requested (item ∷ items) = do
   _ ← present (item ∷ items)
   _ ← single (item ∷ items)
-  request ← both (harvester_in (item ∷ items)) (asked_in (item ∷ items))
-  Ok (Some request)
+  found ← both (harvester_in (item ∷ items)) (asked_in (item ∷ items))
+  Ok (Some (record { harvester = found.0; asked = found.1 }))
 
 -- What a line asks for, or the first refusal that applies: line 1 (an item without a head) to line 8.
 unfoldable pub request_of : List ℕ → Result (Option Request) StmFault

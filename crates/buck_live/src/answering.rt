@@ -1,26 +1,44 @@
 //! What is answered to a line of the input.
-ghost use Rattle.std.specs.Prelude.{◌≡◌, ◌≤◌, ◌<◌, ℕ, List, length, IfOk, codes};
+ghost use Rattle.std.specs.Prelude.{◌≡◌, ◌≤◌, ◌<◌, ◌++◌, ℕ, List, length, IfOk, OnOk, codes};
+ghost use Rattle.std.specs.List.{flat_map};
 ghost use Rattle.std.specs.Option.{option_map};
 ghost use Rattle.buck_rule.specs.Stored.{Answers};
 ghost use Rattle.buck_record.specs.writing.Line.{line_of};
 ghost use Rattle.buck_book.specs.Book.{demand_of};
+ghost use Rattle.buck_book.specs.Plan.{IsPlan};
 ghost use Rattle.buck_book.specs.declared.posting.Posting.TheVariants.{Demand};
 ghost use Rattle.buck_cutter.specs.Cut.{StaysByRule};
-ghost use Rattle.buck_engine.specs.text.Bucking.{stem_lines};
+ghost use Rattle.buck_engine.specs.text.Bucking.{log_line, stem_lines};
 ghost use Rattle.buck_engine.specs.text.Report.{posting_line};
-ghost use Rattle.buck_live.specs.Answers.{AnswersLine, targets_numbers};
+ghost use Rattle.buck_live.specs.Answers.{AnswersLine, JudgesOwn, PreviewsStem, own_line, preview_lines, targets_numbers};
 ghost use Rattle.buck_live.specs.inner.Answering.{AnswersOne, told};
 ghost use Rattle.buck_book.specs.declared.posting.TheConstants.{MOST_POSTINGS};
 
-use crate::request::{Asked, Request, read_request};
+use crate::request::{Asked, read_request};
 use buck_book::{Book, CutFault, DemandRefusal, Plan, TargetsFault};
 use buck_cutter::Cutter;
 use buck_engine::{EngineFault, put_logs, put_stem};
-use buck_record::{Listed, Memory, put_line};
+use buck_own::{Judged, judge};
+use buck_record::{Listed, Memory, put_line, put_numbers};
 use buck_rule::Standing;
 use buck_stem::{Stem, StmFault};
+use buck_value::Log;
 use std::alloc::Global;
 use std::sync::Arc;
+
+/// Puts the lines of a plan's logs.
+fn put_planned(out: &mut Vec<u8>, plan: &Plan) -> Result<(), Memory>
+    ensures put { OnOk result
+        (out.new.items ≡ out.old.items ++ flat_map (log_line plan.now.sheet plan.now.stem) plan.now.logs) }
+    ensures plan { IsPlan plan.now }
+{
+    put_logs(
+        out,
+        plan.sheet(),
+        plan.stem(),
+        plan.cutting().logs.as_slice(),
+    )
+}
 
 /// The lines of a stem that is cut as planned.
 fn stem_text(alloc: Global, plan: &Plan) -> Result<Vec<u8>, Memory>
@@ -28,10 +46,91 @@ fn stem_text(alloc: Global, plan: &Plan) -> Result<Vec<u8>, Memory>
         text.items ≡ stem_lines plan.now.sheet (record { stem = plan.now.stem; logs = plan.now.logs })) }
 {
     let mut text = Vec::new(alloc);
-    let logs = plan.cutting().logs.as_slice();
-    put_stem(&mut text, plan.stem(), logs.len(), plan.worth())?;
-    put_logs(&mut text, plan.sheet(), plan.stem(), logs)?;
+    put_stem(
+        &mut text,
+        plan.stem(),
+        plan.cutting().logs.len(),
+        plan.worth(),
+    )?;
+    put_planned(&mut text, plan)?;
     Ok(text)
+}
+
+/// The lines of a stem that is previewed.
+fn preview_text(alloc: Global, plan: &Plan) -> Result<Vec<u8>, Memory>
+    ensures { IfOk result (λ text. text.items ≡ preview_lines plan.now.sheet plan.now.stem plan.now.logs) }
+{
+    let mut text = Vec::new(alloc);
+    let stem = plan.stem();
+    let numbers = [
+        u128::from(stem.number()),
+        u128::from(stem.length()),
+        plan.cutting().logs.len() as u128,
+        u128::from(plan.worth()),
+    ];
+    put_line(&mut text, b"PREVIEW", &numbers)?;
+    put_planned(&mut text, plan)?;
+    Ok(text)
+}
+
+/// How a stem would be cut under the sheet in force. The answer is its lines.
+fn preview<F: Drop>(alloc: Global, cutter: &mut Cutter<F>, stem: Stem) -> Result<Vec<u8>, Memory>
+    ensures same { cutter.new ≡ cutter.old }
+    ensures previewed { IfOk result (λ text. PreviewsStem cutter.old.history stem text.items) }
+{
+    let plan = cutter.preview(alloc, Arc::new(alloc, stem)?)?;
+    preview_text(alloc, &plan)
+}
+
+/// The line of a cutting of an operator's own, by the worth of the best one.
+fn own_text(
+    alloc: Global,
+    stem: &Stem,
+    own: &[Log],
+    best: u64,
+    judged: Judged,
+) -> Result<Vec<u8>, Memory>
+    ensures { IfOk result (λ text. text.items ≡ own_line stem.now own.now best judged) }
+{
+    let mut text = Vec::new(alloc);
+    let number = u128::from(stem.number());
+    match judged {
+        Judged::Admissible { worth } => {
+            let numbers = [
+                number,
+                own.len() as u128,
+                u128::from(worth),
+                u128::from(best),
+            ];
+            put_line(&mut text, b"OWN", &numbers)?;
+        }
+        Judged::Refused { log, reason } => {
+            text.extend_from_slice(b"OWN")?;
+            put_numbers(&mut text, &[number])?;
+            text.extend_from_slice(b" not")?;
+            put_numbers(&mut text, &[log as u128 + 1])?;
+            text.extend_from_slice(b" ")?;
+            text.extend_from_slice(reason.name().as_bytes())?;
+            text.extend_from_slice(b"\n")?;
+        }
+    }
+    Ok(text)
+}
+
+/// What an operator's own logs of a stem are worth under the sheet in force, or which of them can't be cut. The answer
+/// is their line.
+fn judge_own<F: Drop>(
+    alloc: Global,
+    cutter: &mut Cutter<F>,
+    stem: Stem,
+    own: &[Log],
+) -> Result<Vec<u8>, Memory>
+    ensures same { cutter.new ≡ cutter.old }
+    ensures judged { IfOk result (λ text. JudgesOwn cutter.old.history stem own.now text.items) }
+{
+    let plan = cutter.preview(alloc, Arc::new(alloc, stem)?)?;
+    let judged = judge(plan.sheet(), plan.stem(), own);
+    own_text(alloc, plan.stem(), own, plan.worth(), judged)
 }
 
 /// Cuts a stem under the sheet in force. The answer is its lines.
@@ -47,8 +146,7 @@ fn cut<F: Fn(&Standing) -> u64 + Drop>(
     requires harvester { (0 < harvester) × (harvester ≤ 64) }
     ensures rule { cutter.new.rule ≡ cutter.old.rule }
     ensures capacity { cutter.new.capacity ≡ cutter.old.capacity }
-    ensures cut { AnswersOne cutter.old.history (record { harvester = harvester; asked = Asked.Stem stem })
-        (told result) cutter.new.history }
+    ensures cut { AnswersOne cutter.old.history harvester (Asked.Stem stem) (told result) cutter.new.history }
     ensures given { StaysByRule F.Fn cutter.old cutter.new }
 {
     let plan = cutter.preview(alloc, Arc::new(alloc, stem)?)?;
@@ -104,8 +202,8 @@ fn retarget<F: Fn(&Standing) -> u64 + Drop>(
     requires harvester { (0 < harvester) × (harvester ≤ 64) }
     ensures rule { cutter.new.rule ≡ cutter.old.rule }
     ensures capacity { cutter.new.capacity ≡ cutter.old.capacity }
-    ensures taken { AnswersOne cutter.old.history (record { harvester = harvester; asked = Asked.Targets targets })
-        (told result) cutter.new.history }
+    ensures taken { AnswersOne cutter.old.history harvester (Asked.Targets targets) (told result)
+        cutter.new.history }
     ensures given { StaysByRule F.Fn cutter.old cutter.new }
 {
     let targets = Arc::new(alloc, targets.into_vec())?;
@@ -118,23 +216,26 @@ fn retarget<F: Fn(&Standing) -> u64 + Drop>(
     }
 }
 
-/// Does what is asked for, where the history has room.
-fn answer_request<F: Fn(&Standing) -> u64 + Drop>(
+/// Answers what is asked for: a posting where the history has room, and whatever posts nothing.
+#[tactic(auto, using(buck_cutter::proofs::Adding::as_before))]
+fn answer_asked<F: Fn(&Standing) -> u64 + Drop>(
     alloc: Global,
     cutter: &mut Cutter<F>,
-    request: Request,
+    harvester: u32,
+    asked: Asked,
 ) -> Result<Vec<u8>, EngineFault>
     requires answers { Answers F.Fn cutter.old.rule }
     requires capacity { cutter.old.capacity ≡ MOST_POSTINGS }
-    requires harvester { (0 < request.harvester) × (request.harvester ≤ 64) }
+    requires harvester { (0 < harvester) × (harvester ≤ 64) }
     ensures rule { cutter.new.rule ≡ cutter.old.rule }
     ensures capacity { cutter.new.capacity ≡ cutter.old.capacity }
-    ensures answered { AnswersOne cutter.old.history request (told result) cutter.new.history }
+    ensures answered { AnswersOne cutter.old.history harvester asked (told result) cutter.new.history }
     ensures given { StaysByRule F.Fn cutter.old cutter.new }
 {
-    let Request { harvester, asked } = request;
     match asked {
         Asked::Stem(stem) => cut(alloc, cutter, harvester, stem),
+        Asked::Preview(stem) => Ok(preview(alloc, cutter, stem)?),
+        Asked::Own { stem, logs } => Ok(judge_own(alloc, cutter, stem, logs.as_slice())?),
         Asked::Targets(targets) => retarget(alloc, cutter, harvester, targets),
     }
 }
@@ -159,7 +260,7 @@ pub(crate) fn answer<F: Fn(&Standing) -> u64 + Drop>(
     };
     match read_request(alloc, line) {
         Ok(None) => Ok(Vec::new(alloc)),
-        Ok(Some(request)) => answer_request(alloc, cutter, request),
+        Ok(Some(request)) => answer_asked(alloc, cutter, request.harvester, request.asked),
         Err(StmFault::Memory) => Err(EngineFault::Memory),
         Err(fault) => Err(EngineFault::Stm { file: 1, fault }),
     }

@@ -1,43 +1,64 @@
 //! What a line of the input asks for.
-ghost use Rattle.std.specs.Prelude.{◌≡◌, ◌++◌, ◌<◌, ◌≤◌, Ok, IfOk, IfSome, OnOk};
+ghost use Rattle.std.specs.Prelude.{◌≡◌, ◌++◌, ◌<◌, ◌≤◌, ◌*◌, ◌%◌, ◌==◌, ◌&&◌, nat_le, true, Ok, IfOk, IfSome, OnOk};
 ghost use Rattle.buck_record.specs.Reading.{Gives, with_fault};
 ghost use Rattle.buck_record.specs.bytes.Record.{items_of};
 ghost use Rattle.buck_record.specs.checking.Table.{is_in};
 ghost use Rattle.buck_stem.specs.file.Faults.{stm_numbers};
 ghost use Rattle.buck_stem.specs.file.Stm.{stm_of};
+ghost use Rattle.buck_journal.specs.reading.Journal.{logs_of};
 ghost use Rattle.buck_live.specs.Request.{
   all_there,
+  are_low,
   asked_in,
+  asked_of,
   both,
   earlier,
   harvester_in,
   item_text,
   named_harvester,
+  named_own,
+  named_preview,
   number_of_line,
   only_stem,
+  own_in,
   present,
+  preview_in,
   request_of,
   requested,
   single,
   stem_file,
+  stem_in,
   stem_text,
   targets_in,
 };
 
-use crate::slots::{ASKED, HARVESTER, STEM_ITEMS, TABLE, TARGETS};
+use crate::slots::{
+    AFTER_STEM, ASKED, HARVESTER, HIGHEST_ASSORTMENT, HIGHEST_LENGTH, HIGHEST_START, MOST_OWN, OWN,
+    PREVIEW, STEM_ITEMS, TABLE, TARGETS,
+};
 use buck_record::check::{all_absent, all_single, all_there as each_there, check, is_there};
-use buck_record::rules::{all_within, numbers_in};
+use buck_record::rules::{all_in_range, all_within, numbers_in};
 use buck_record::table::front;
 use buck_record::{FormFault, Listed, Memory, Numbered, Piece, RecordFault, pieces, put_numbers};
-use buck_stem::slots::{MEMBERS, NEEDED, STEM};
+use buck_stem::slots::{NEEDED, STEM};
 use buck_stem::{Stem, StmFault, read_stm};
-use std::alloc::Global;
+use buck_value::Log;
+use std::alloc::{AllocError, Global};
 
 /// What is asked for.
 #[derive(Drop)]
 pub enum Asked {
     /// A stem is to be cut.
     Stem(Stem),
+    /// It is to be said how a stem would be cut.
+    Preview(Stem),
+    /// It is to be said what logs of the operator's own are worth, or which of them can't be cut.
+    Own {
+        /// The stem, which isn't cut.
+        stem: Stem,
+        /// Its logs, any up to 80.
+        logs: Listed<Log>,
+    },
     /// New targets are to come into force: the number of logs wanted of each class, each 0 to 4,294,967,295.
     Targets(Listed<u32>),
 }
@@ -68,7 +89,7 @@ fn present<'a>(items: &'a [Piece<'a>]) -> Result<(), StmFault>
     ensures { result ≡ present items.now }
 {
     check(
-        all_absent(&MEMBERS, front(items, STEM)),
+        all_absent(&AFTER_STEM, front(items, STEM)),
         StmFault::missing(STEM),
     )?;
     all_there(items)
@@ -155,20 +176,20 @@ fn stem_file(alloc: Global, items: &[Piece<'_>]) -> Result<Vec<u8>, Memory>
 }
 
 /// The stem of a stem file that has one.
-fn only_stem(mut stems: Vec<Stem>) -> Result<Asked, StmFault>
+fn only_stem(mut stems: Vec<Stem>) -> Result<Stem, StmFault>
     ensures { result ≡ only_stem (Ok stems.items) }
 {
     if stems.len() != 1 {
         return Err(StmFault::missing(STEM));
     }
     match stems.pop() {
-        Some(stem) => Ok(Asked::Stem(stem)),
+        Some(stem) => Ok(stem),
         None => Err(StmFault::missing(STEM)),
     }
 }
 
 /// The stem that the items of a stem are, as a stem file has it.
-fn stem_in(alloc: Global, items: &[Piece<'_>]) -> Result<Asked, StmFault>
+fn read_stem(alloc: Global, items: &[Piece<'_>]) -> Result<Stem, StmFault>
     ensures { Gives StmFault.Memory result (only_stem (stm_of (stem_file items.now))) }
 {
     let Ok(text) = stem_file(alloc, items) else {
@@ -178,24 +199,90 @@ fn stem_in(alloc: Global, items: &[Piece<'_>]) -> Result<Asked, StmFault>
     only_stem(stems)
 }
 
-/// The targets that an item has.
-#[tactic(auto, unfolding(crate::specs::Request::targets_in))]
-fn targets_in<'a>(alloc: Global, items: &'a [Piece<'a>]) -> Result<Asked, StmFault>
-    ensures { Gives StmFault.Memory result (targets_in items.now) }
+/// That a preview is asked for, by the item that does.
+#[tactic(auto, unfolding(crate::specs::Request::named_preview))]
+fn named_preview<'a>(alloc: Global, items: &'a [Piece<'a>]) -> Result<bool, StmFault>
+    ensures { Gives StmFault.Memory result (named_preview items.now) }
 {
-    let targets = numbers_in::<StmFault>(alloc, TARGETS, items)?;
-    Ok(Asked::Targets(targets))
+    let numbers = numbers_in::<StmFault>(alloc, PREVIEW, items)?;
+    let numbers = numbers.as_slice();
+    all_in_range::<StmFault>(PREVIEW, numbers)?;
+    check(numbers.len() == 1, StmFault::count(PREVIEW))?;
+    Ok(true)
 }
 
-/// What is asked for.
-#[tactic(auto, unfolding(crate::specs::Request::asked_in))]
-fn asked_in<'a>(alloc: Global, items: &'a [Piece<'a>]) -> Result<Asked, StmFault>
-    ensures { Gives StmFault.Memory result (asked_in items.now) }
+/// Whether a preview is asked for.
+fn preview_in<'a>(alloc: Global, items: &'a [Piece<'a>]) -> Result<bool, StmFault>
+    ensures { Gives StmFault.Memory result (preview_in items.now) }
 {
-    if is_there(items, TARGETS) {
-        targets_in(alloc, items)
+    if is_there(items, PREVIEW) {
+        named_preview(alloc, items)
     } else {
-        stem_in(alloc, items)
+        Ok(false)
+    }
+}
+
+/// No start, length or assortment is above the highest; those of a last log that isn't whole take part.
+fn are_low(numbers: &[u32]) -> bool
+    ensures { result ≡ are_low numbers.now }
+{
+    let mut first = HIGHEST_START;
+    let mut second = HIGHEST_LENGTH;
+    let mut third = HIGHEST_ASSORTMENT;
+    for number in numbers {
+        if *number > first {
+            return false;
+        }
+        (first, second, third) = (second, third, first);
+    }
+    true
+}
+
+/// Three numbers for each log, of no more logs than there may be.
+fn is_count_of_own(count: usize) -> bool
+    ensures { result ≡ (count % 3 == 0 && nat_le count (3 * MOST_OWN)) }
+{
+    count % 3 == 0 && count <= 3 * MOST_OWN
+}
+
+/// Starts, lengths and assortments, three by three.
+fn logs_of(alloc: Global, numbers: &[u32]) -> Result<Vec<Log>, AllocError>
+    requires { are_low numbers.now ≡ true }
+    ensures { IfOk result (λ logs. logs.items ≡ logs_of numbers.now) }
+{
+    let mut logs = Vec::with_capacity(alloc, numbers.len() / 3)?;
+    for k in 0..numbers.len() / 3 {
+        logs.push(Log {
+            start: numbers[3 * k],
+            length: numbers[3 * k + 1],
+            assortment: numbers[3 * k + 2] as u8,
+        })?;
+    }
+    Ok(logs)
+}
+
+/// An operator's own logs, by the item that has them.
+#[tactic(auto, unfolding(crate::specs::Request::named_own))]
+fn named_own<'a>(alloc: Global, items: &'a [Piece<'a>]) -> Result<Option<Listed<Log>>, StmFault>
+    ensures { Gives StmFault.Memory result (named_own items.now) }
+{
+    let numbers = numbers_in::<StmFault>(alloc, OWN, items)?;
+    let numbers = numbers.as_slice();
+    if !are_low(numbers) {
+        return Err(StmFault::range(OWN));
+    }
+    check(is_count_of_own(numbers.len()), StmFault::count(OWN))?;
+    Ok(Some(Listed::of(logs_of(alloc, numbers)?)))
+}
+
+/// An operator's own logs, where there are any.
+fn own_in<'a>(alloc: Global, items: &'a [Piece<'a>]) -> Result<Option<Listed<Log>>, StmFault>
+    ensures { Gives StmFault.Memory result (own_in items.now) }
+{
+    if is_there(items, OWN) {
+        named_own(alloc, items)
+    } else {
+        Ok(None)
     }
 }
 
@@ -220,18 +307,78 @@ fn earlier(e: StmFault, f: StmFault) -> StmFault
     }
 }
 
-/// Who asks, and for what; or the fault of the earlier line.
-fn both(
-    harvester: Result<u32, StmFault>,
-    asked: Result<Asked, StmFault>,
-) -> Result<Request, StmFault>
-    ensures { result ≡ both harvester asked }
+/// What two items say, or the fault of the earlier line.
+fn both<A: Drop, B: Drop>(
+    a: Result<A, StmFault>,
+    b: Result<B, StmFault>,
+) -> Result<(A, B), StmFault>
+    ensures { result ≡ both a b }
 {
-    match (harvester, asked) {
-        (Ok(harvester), Ok(asked)) => Ok(Request { harvester, asked }),
+    match (a, b) {
+        (Ok(a), Ok(b)) => Ok((a, b)),
         (Err(fault), Ok(_)) => Err(fault),
         (Ok(_), Err(fault)) => Err(fault),
         (Err(e), Err(f)) => Err(earlier(e, f)),
+    }
+}
+
+/// What is asked of a stem.
+fn asked_of(stem: Stem, previewed: bool, own: Option<Listed<Log>>) -> Asked
+    ensures { result ≡ asked_of stem previewed own }
+{
+    match own {
+        Some(logs) => Asked::Own { stem, logs },
+        None => {
+            if previewed {
+                Asked::Preview(stem)
+            } else {
+                Asked::Stem(stem)
+            }
+        }
+    }
+}
+
+/// What is asked of a stem beside the cut, or the fault of the earlier line.
+fn looks_in<'a>(
+    alloc: Global,
+    items: &'a [Piece<'a>],
+) -> Result<(bool, Option<Listed<Log>>), StmFault>
+    ensures { Gives StmFault.Memory result (both (preview_in items.now) (own_in items.now)) }
+{
+    let preview = preview_in(alloc, items);
+    let own = own_in(alloc, items);
+    both(preview, own)
+}
+
+/// A stem, and what is asked of it; or the fault of the earliest line.
+#[tactic(auto, unfolding(crate::specs::Request::stem_in))]
+fn stem_in<'a>(alloc: Global, items: &'a [Piece<'a>]) -> Result<Asked, StmFault>
+    ensures { Gives StmFault.Memory result (stem_in items.now) }
+{
+    let stem = read_stem(alloc, items);
+    let looks = looks_in(alloc, items);
+    let (stem, (previewed, own)) = both(stem, looks)?;
+    Ok(asked_of(stem, previewed, own))
+}
+
+/// The targets that an item has.
+#[tactic(auto, unfolding(crate::specs::Request::targets_in))]
+fn targets_in<'a>(alloc: Global, items: &'a [Piece<'a>]) -> Result<Asked, StmFault>
+    ensures { Gives StmFault.Memory result (targets_in items.now) }
+{
+    let targets = numbers_in::<StmFault>(alloc, TARGETS, items)?;
+    Ok(Asked::Targets(targets))
+}
+
+/// What is asked for.
+#[tactic(auto, unfolding(crate::specs::Request::asked_in))]
+fn asked_in<'a>(alloc: Global, items: &'a [Piece<'a>]) -> Result<Asked, StmFault>
+    ensures { Gives StmFault.Memory result (asked_in items.now) }
+{
+    if is_there(items, TARGETS) {
+        targets_in(alloc, items)
+    } else {
+        stem_in(alloc, items)
     }
 }
 
@@ -248,8 +395,8 @@ fn requested<'a>(alloc: Global, items: &'a [Piece<'a>]) -> Result<Option<Request
     single(items)?;
     let harvester = harvester_in(alloc, items);
     let asked = asked_in(alloc, items);
-    let request = both(harvester, asked)?;
-    Ok(Some(request))
+    let (harvester, asked) = both(harvester, asked)?;
+    Ok(Some(Request { harvester, asked }))
 }
 
 /// The items of a line.

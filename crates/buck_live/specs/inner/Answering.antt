@@ -5,15 +5,15 @@ use Rattle.std.specs.declared.alloc.Global.{Global}
 use Rattle.buck_book.specs.History.{HistoryParts}
 use Rattle.buck_engine.specs.declared.fault.EngineFault.{EngineFault}
 use Rattle.buck_engine.specs.Faults.{fault_line, memory_line}
-use Rattle.buck_live.specs.Answers.{AnswersRequest, SaysOnly}
-use Rattle.buck_live.specs.declared.request.Request.{Request}
+use Rattle.buck_live.specs.Answers.{AnswersAsked, SaysOnly}
+use Rattle.buck_live.specs.declared.request.Asked.{Asked}
 
 -- what is written of an answer
 abbrev pub told : Result (Vec ℕ Global) EngineFault → List ℕ
 told (Ok text) = text.items
 told (Err fault) = fault_line fault
 
--- what is answered to a request, or that memory ran out
-abbrev pub AnswersOne : HistoryParts → Request → List ℕ → HistoryParts → Type 0
-AnswersOne before request text after =
-    AnswersRequest before request text after ⊎ SaysOnly memory_line before text after
+-- what is answered to what is asked for, or that memory ran out
+abbrev pub AnswersOne : HistoryParts → ℕ → Asked → List ℕ → HistoryParts → Type 0
+AnswersOne before harvester asked text after =
+    AnswersAsked before harvester asked text after ⊎ SaysOnly memory_line before text after

@@ -1,0 +1,10 @@
+use Rattle.std.proofs.Common.{◌≡◌, ◌*◌, ◌++◌, drop, true}
+use Rattle.buck_journal.specs.reading.Journal.{logs_of}
+use Rattle.buck_live.specs.Request.{are_low}
+use Rattle.buck_live.proofs.request.logs_of.Given as goal
+
+abbrev pub invariant-loop-k : goal.invariant-loop-k
+invariant-loop-k l = record {
+  so_far : l.logs.items ++ logs_of (drop (3 * l.k) l.numbers) ≡ logs_of l.numbers;
+  low : are_low (drop (3 * l.k) l.numbers) ≡ true;
+}
