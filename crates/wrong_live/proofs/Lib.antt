@@ -1,2 +1,3 @@
+pub mod Looked
 pub mod Refused
 pub mod Ruled

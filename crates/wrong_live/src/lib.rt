@@ -4,4 +4,5 @@
 //! proves that what it gives, or leaves behind, isn't what the wrong body of the function's name would give or leave.
 #![tactic(auto)]
 
+pub mod looks;
 pub mod requests;
