@@ -36,7 +36,7 @@ abbrev pub sheets_from : ℕ → InstructionParts → List (List ℕ) → List S
 sheets_from version i [] = []
 sheets_from version i (prices ∷ more) = sheet_of version i prices ∷ sheets_from (version + 1) i more
 
--- what a book keeps of a cut beside that it is best: a valid stem, and the first of the best cuttings
+-- what a book keeps of a cut besides being best: a valid stem, and the first of the best cuttings
 abbrev pub IsFirst : HistoryParts → Posting → Type 0
 IsFirst h (Cut e) =
     IsStem e.stem × IsFirstBest (sheet_at h.instruction h.sheets e.version) e.stem e.logs

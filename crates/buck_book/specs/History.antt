@@ -40,10 +40,11 @@ pub record PricesMeet (i : InstructionParts) (ps : List Posting) (prices : List 
   pub each_meets : (c : Class) (k : IsClass i c)
       → Meets (standing_of i k.assortment c ps) (slice_index prices (index_of i c))
 
--- the prices of a version, and its sheet
+-- the prices of a version
 abbrev pub prices_at : List (List ℕ) → ℕ → List ℕ
 prices_at sheets version = slice_index_or sheets version []
 
+-- the sheet of a version
 abbrev pub sheet_at : InstructionParts → List (List ℕ) → ℕ → SheetParts
 sheet_at i sheets version = sheet_of version i (prices_at sheets version)
 
@@ -64,7 +65,7 @@ pub record Follows (i : InstructionParts) (sheets : List (List ℕ)) (before : L
 abbrev pub IsEnd : InstructionParts → List Posting → Posting → Type 0
 IsEnd i before x = is_end i.period (cuts_since_end i before) x ≡ true
 
--- the prices that come into force after the first k postings, where the posting that follows them is an end
+-- the prices that come into force after the first k postings, if the posting that follows them is an end
 abbrev pub prices_after : HistoryParts → ℕ → List ℕ
 prices_after h k = prices_at h.sheets (ends_of h.instruction (take k h.postings) + 1)
 

@@ -17,27 +17,29 @@ abbrev pub planned_version : Posting → ℕ
 planned_version (Cut e) = e.version
 planned_version (Demand d) = d.version
 
--- a posting is an end, where so many cuts came since the last end: a demand is, and the cut that makes a period full
+-- whether a posting ends a period after `cuts` cuts since the last end: a demand does, and the cut that fills the
+-- period
 abbrev pub is_end : ℕ → ℕ → Posting → Bool
 is_end period cuts (Cut e) = cuts + 1 == period
 is_end period cuts (Demand d) = true
 
--- how many ends some postings have, where so many cuts came since the last end before them
+-- how many ends some postings have, if `cuts` cuts came since the last end before them
 abbrev pub ends_from : ℕ → ℕ → List Posting → ℕ
 ends_from period cuts [] = 0
 ends_from period cuts (x ∷ more) =
     cond (is_end period cuts x) (1 + ends_from period 0 more) (ends_from period (cuts + 1) more)
 
--- how many cuts came since the last end
+-- how many cuts came since the last end, if `cuts` cuts came since the last one before these postings
 abbrev pub cuts_from : ℕ → ℕ → List Posting → ℕ
 cuts_from period cuts [] = cuts
 cuts_from period cuts (x ∷ more) =
     cond (is_end period cuts x) (cuts_from period 0 more) (cuts_from period (cuts + 1) more)
 
--- both, from the opening on
+-- how many ends some postings have, from the opening on
 abbrev pub ends_of : InstructionParts → List Posting → ℕ
 ends_of i ps = ends_from i.period 0 ps
 
+-- how many cuts came since the last end, from the opening on
 abbrev pub cuts_since_end : InstructionParts → List Posting → ℕ
 cuts_since_end i ps = cuts_from i.period 0 ps
 

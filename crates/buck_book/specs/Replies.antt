@@ -12,7 +12,7 @@ use Rattle.buck_book.specs.declared.posting.Kept.{Kept}
 use Rattle.buck_book.specs.Posting.{harvester_of}
 use Rattle.buck_book.specs.History.{HistoryParts}
 
--- a harvester's postings of a history, in order, each with its position; the first posting has this position
+-- a harvester's postings among some, in order, each with its position; the first of them has this position
 abbrev pub replies_from : ℕ → ℕ → List Posting → List Kept
 replies_from h position [] = []
 replies_from h position (x ∷ more) =
@@ -20,6 +20,7 @@ replies_from h position (x ∷ more) =
     ((record { position = position; entry = x }) ∷ replies_from h (position + 1) more)
     (replies_from h (position + 1) more)
 
+-- a harvester's postings of a history, in order, each with its position
 abbrev pub replies_of : ℕ → HistoryParts → List Kept
 replies_of h history = replies_from h 0 history.postings
 

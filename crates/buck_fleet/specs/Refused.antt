@@ -24,7 +24,7 @@ IsOpenFault seats capacity opening.Capacity =
 IsOpenFault seats capacity opening.Memory =
     (0 < seats) × (seats ≤ MOST_SEATS) × (0 < capacity) × (capacity ≤ MOST_POSTINGS)
 
--- the plan is given back, and a sheet in force is another than the plan's
+-- the plan is given back, and, if stale, the sheet in force is another than the plan's
 abbrev pub GivesBack : PlanParts → TryFault → Type 0
 GivesBack p (Full plan) = plan ≡ p
 GivesBack p (Stale in_force plan) = (plan ≡ p) × (in_force.value ≢ p.sheet)

@@ -16,7 +16,7 @@ pub record SeatParts : Type 0 where
 abbrev pub seen_of : SeatParts → ℕ
 seen_of s = seen_by s.place
 
--- these postings are kept, and nothing else changed but that a newer version may have been seen
+-- these postings are kept; harvester and parts are as before, and the version seen is no lower
 pub record Keeps (before : SeatParts) (kept : List Kept) (after : SeatParts) : Type 0 where
   pub same_harvester : after.harvester ≡ before.harvester
   pub kept_are : after.kept ≡ kept

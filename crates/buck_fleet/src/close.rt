@@ -227,8 +227,8 @@ impl Closed {
 
 impl<F: Drop, L: Ledger> Fleet<F, L> {
     /// Closes the fleet: takes all its seats in, in any order, and compares what each kept with the history. It takes
-    /// no memory. Where it answers Ok the history is one of a single thread, and holds each seat's replies once and in
-    /// their order and nothing else. Refused as `Instruction` where the book's instruction isn't the fleet's, else as
+    /// no memory. If it returns `Ok`, the history is one of a single thread, and holds each seat's replies once and in
+    /// their order and nothing else. Refused as `Instruction` if the book's instruction isn't the fleet's, else as
     /// `Calls`; the history is handed out all the same.
     pub fn close(self, seats: Vec<Seat<L>>) -> Result<Closed, (CloseFault, Closed)>
         requires crew { IsCrew self.seats seats.items }

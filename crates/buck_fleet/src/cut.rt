@@ -44,7 +44,7 @@ impl<F: Fn(&Standing) -> u64 + Drop, L: Ledger> Fleet<F, L> {
     /// Cuts a stem for a seat of this fleet. Up to three times it plans against the newest sheet without the lock,
     /// tells the gate, and commits the plan if its sheet is still in force; it plans under the lock after the third
     /// time, or as soon as no sheet is shown that is newer than that of the attempt before. Refused as `Full` at the
-    /// capacity, and as `Memory` where a growth was refused; history and kept list are then as before.
+    /// capacity, and as `Memory` if an allocation failed; history and kept list are then as before.
     pub fn cut<R: Wait, G: Gate>(
         &self,
         rt: &R,

@@ -49,8 +49,8 @@ impl<F, L: Ledger> Model for Fleet<F, L> {
 }
 
 impl<F, L: Ledger> Fleet<F, L> {
-    /// The newest sheet that the board shows to a seat of this fleet. It waits for nobody and takes no memory. None
-    /// where that sheet couldn't be put up; the base sheet is always shown.
+    /// The newest sheet that the board shows to a seat of this fleet. It waits for nobody and takes no memory. `None`
+    /// if that sheet couldn't be put up; the base sheet is always shown.
     pub fn snapshot<'a>(&'a self, seat: &mut Seat<L>) -> Option<Snapshot<'a>>
         requires seat { IsSeatIn self.now seat.old }
         ensures seat { IsSeatIn self.now seat.new }
@@ -89,8 +89,8 @@ impl<F, L: Ledger> Fleet<F, L> {
 
 impl<F: Fn(&Standing) -> u64 + Drop, L: Ledger> Fleet<F, L> {
     /// Commits a caller's plan for a seat of this fleet, if the plan's sheet is in force: one critical section. Refused
-    /// as `Full` at the capacity, else as `Stale` where another sheet is in force, and as `Memory` where a growth was
-    /// refused; the plan is then given back, and history and kept list are as before.
+    /// as `Full` at the capacity, else as `Stale` if another sheet is in force, and as `Memory` if an allocation
+    /// failed; the plan is then given back, and history and kept list are as before.
     pub fn try_commit<R: Wait>(
         &self,
         rt: &R,
@@ -123,8 +123,8 @@ impl<F: Fn(&Standing) -> u64 + Drop, L: Ledger> Fleet<F, L> {
     }
 
     /// Puts new targets in force for a seat of this fleet, class by class: one critical section. They end the running
-    /// period. Refused as `Full` at the capacity, else as `Targets` where they aren't valid, and as `Memory` where a
-    /// growth was refused; history and kept list are then as before.
+    /// period. Refused as `Full` at the capacity, else as `Targets` if they aren't valid, and as `Memory` if an
+    /// allocation failed; history and kept list are then as before.
     pub fn retarget<R: Wait>(
         &self,
         rt: &R,

@@ -86,7 +86,7 @@ fn seat_all<L: Ledger>(
 impl<F: Fn(&Standing) -> u64 + Drop, L: Ledger> Fleet<F, L> {
     /// A fleet with this many seats, 1 to 64, and an empty history that may have this many postings, 1 to 1,000,000.
     /// The blank is the one that the fleet's ledger is named by, of 64 parts. Refused as `Seats`, else as `Capacity`,
-    /// and as `Memory` where a growth was refused.
+    /// and as `Memory` if an allocation failed.
     pub fn open<R: Wait>(
         rt: &R,
         alloc: Global,
