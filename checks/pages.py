@@ -72,9 +72,65 @@ HEADLINE_PAGE = """# The headline, whole
 
 `python3 checks/pages.py --write` writes this page. Don't edit it.
 
-For a sceptic: all that must be believed of this repository for [the headline](PROOFS.md#the-headline). First come the clauses of the calls that it is about, then every definition that they lead to, with its file and lines. A definition stands after the first one that names it, `Fleet::close` first: a name is explained just below, or was above. Nothing here is a body or a proof.
+For a sceptic: all that must be believed of this repository for [the headline](PROOFS.md#the-headline). First come the clauses of the calls that it is about, then every definition that they lead to, with its file, its lines, and links to the definitions that it names. Nothing here is a body or a proof.
 
-The page has {lines} lines: {clauses} of the heads and clauses of {calls} calls, and {definitions} of definitions from {files} files. Among these are {types} types of the code: of a type that clauses see by a view, the view. What comes from the standard library (lists, options, results, numbers) is not repeated. `A.now` is a value at the end of a call, `A.old` and `A.new` are those of a `&mut` at its beginning and end.
+The page shows {lines} lines of the sources, from {files} files: {clauses} of the heads and clauses of {calls} calls, and {definitions} of definitions. {types} of these are types of the code; if a contract sees a type by a view, the page shows the view without its invariant.
+
+A comment that calls a type valid or lawful describes its invariant, which the checker keeps: of `Instruction`, `Assortment`, `Stem`, `Sheet` and `Plan` it is `IsInstruction`, `IsAssortment`, `IsStem`, `IsSheet` and `IsPlan`; that of `Parts`, and so of `Closed`, contains `IsLawful`. So a history that `close` refuses is lawful too.
+
+The standard library, `atomic_table` and `boxcar` are not repeated; [PROOFS](PROOFS.md#what-is-assumed) has what else is assumed, and what is not proved. Of a `CutFault`, a `RetargetFault` and a caller's `Gate`, which is told of each plan, no clause here says anything, so they are not shown.
+
+## Seats of another fleet
+
+`close` doesn't ask that each seat is one of its fleet (`IsSeatIn`), and need not: its condition `parts` excludes all others.
+
+A *ledger* (`std::sync::ledger`) is a number of parts that exists in proofs alone; `L` names one, and `L.parts` is its number. A `Blank` is a ledger that is in use nowhere: it has a name of its own, can't be copied, and `open` uses it up. Because `open` requires that this name is `L`'s (`blank`), at most one fleet is ever opened with `L`, and `L.parts` is 64.
+
+`open` hands out seats that have all 64 parts together (`AreOpened`). The library's ledger keeps that all holders have `L.parts` parts together, and every seat has at least one (an invariant of `Seat`). `close` requires that its seats have `L.parts` parts together, so they are all the seats that the fleet has. A seat of another fleet has parts of another ledger, and so another type. A seat that is dropped takes its parts with it; its fleet can't be closed.
+
+Of the public calls of `buck_fleet`, only `run_fleet` takes seats beside those on this page. So nothing else changes a kept list.
+
+## How to read it
+
+| Form | Meaning |
+|---|---|
+| `≡`, `≢`, `ℕ` | is equal to, is not equal to, a natural number |
+| `a - b`, `a / b`, `a % b` | 0 if b is greater; rounded down; the remainder |
+| `A × B`, `A ⊎ B`, `A → B` | A and B (or a pair, with parts `.0` and `.1`); A or B; if A, then B |
+| `(x : A) → B`, `(x : A) × B` | for every x of type A, B; for some x of type A, B |
+| `Unit {{0}}`, `⊥`, `tt` | what always holds; what never holds; the one value of the first |
+| `λ x. e` | the function that gives e for x |
+| `[]`, `x ∷ xs`, `xs ++ ys` | the empty list; x before the list xs; one list after the other |
+| `==`, `&&`, `\\|\\|`, `nat_eq`, `nat_le` | tests, which give `true` or `false` |
+| `{{F : Type 0}}` | an argument that isn't written where it is clear |
+| `abbrev`, `unfoldable` | begin a definition; they say when the checker puts in its meaning, not what it means |
+| `record` | a tuple with named fields; one that states something holds if all its fields do |
+| `«module»` | the name `module`, which is a word of the language |
+| `requires`, `ensures` | a condition on the caller; a clause that holds after the call |
+| `ghost` | of proofs alone, with no effect when the program runs; in a struct also a fact that holds of its values |
+| `Value`, `view` | as what contracts see a type, and the function from its fields to that |
+| `x.now`, `x.old`, `x.new` | the value at the end of a call; of a `&mut` that at its beginning and at its end |
+| `v.items`, `a.value` | the list in a `Vec`; what an `Arc` holds |
+| `opening.Seats`, `posting.Cut` | variants of `OpenFault` and of `Posting` |
+| `slot!(918, 1, 0..=1_000_000)` | an item of a file by number and kind, with its range, whose end is `.high` |
+| `take n xs`, `drop n xs`, `length`, `map`, `sum`, `flat_map`, `min`, `position` | as in Rust |
+| `slice_get xs i` | element i, from 0, if there is one |
+| `slice_index xs i`, `slice_index_or xs i d` | element i, else 0; element i, else d |
+| `All P xs`, `EachIndex xs P` | P of each element; P of each index |
+| `Contains xs x`, `IsStrictlyIncreasing xs` | x is an element; each element is above the one before |
+| `count_by p xs`, `sum_by f xs` | how many elements pass p; the sum of f over the elements |
+| `prefix_len p xs`, `suffix_len p xs` | how many elements pass p from the front on; from the end back |
+| `cond b x y` | x if b is true, else y |
+| `unwrap_or o d`, `option_or o p`, `option_map f o` | the value of o, else d; o if it has a value, else p; f of the value |
+| `IfOk r P`, `IfErr r P`, `IfSome o P`, `ForSome o P` | if there is such a value, P of it |
+| `IfNone o A`, `ForNone o A` | if there is no value, A |
+| `Shared F A B`, `F.Fn`, `Bor X` | what is known of closures of type F, from A to B; that of the caller's; a borrowed X |
+| `g.pre f x`, `g.post f x r` | f may be called with x; r is a possible answer |
+| `Wait`, `Global`, `Arc`, `Vec`, `Option`, `Result` | the right to wait; memory of malloc; as in Rust |
+| `Table`, `Seat<(), u64>`, `table_id` | of `atomic_table`: words that threads share, a thread's place at them (not the `Seat` below), their identity |
+| `boxcar::Vec`, `Pushed`, `Shows v p` | a list that only grows; the proof that something was pushed; p is of the list v |
+
+The words from `take` to `IfNone` are defined in `Rattle.std.specs`: `rt lemma WORD` prints each.
 """
 
 HEAD = r"(?:abbrev|unfoldable|pub record|record)\s+(?:pub\s+)?"
@@ -306,8 +362,8 @@ class Reading:
                 self.calls[name] = (crate, "/".join(words), lines, at)
 
     def of_names(self, text, page, taken, stands=()):
-        """What the names in a text stand for: definitions of its own page or of others, and types of the code."""
-        for word in in_order(text):
+        """What the names in a text stand for, those of its own fields apart: definitions, and types of the code."""
+        for word in in_order(re.sub(r"\bpub (?:\w+|«\w+») :", "", text)):
             if word in stands:
                 yield "definition", page, word
             elif word in taken:
@@ -318,8 +374,8 @@ class Reading:
                     yield "definition", taken[word], word
 
     def of_types(self, text, crate, rust):
-        """The types of the product that a declaration names."""
-        for word in in_order(text):
+        """The types of the product that a declaration names, the names of its own variants apart."""
+        for word in in_order(re.sub(r"(?m)^    [A-Z]\w*", "", text)):
             at = rust.get(word, crate)
             key = (crate if at == "crate" else at, word)
             if key in self.types:
@@ -397,35 +453,46 @@ class Reading:
         return node[2], f"crates/{crate}/{part}/{name.replace('.', '/')}.{ending}", lines, [stands[node[2]][1:]]
 
 
+def linked(titles):
+    """Links to the headings of these titles, none twice."""
+    return [f"[{it}](#{re.sub(r'[^a-z0-9_]', '', it.lower())})" for it in dict.fromkeys(titles)]
+
+
+def part_of_page(shown, named):
+    """A call or a definition on the page: its title, its file and lines, links to those that it names, its text."""
+    name, file, lines, ranges = shown
+    spans = [f"{first + 1} to {last + 1}" if first < last else f"{first + 1}" for first, last in ranges]
+    code = []
+    for first, last in ranges:
+        part = lines[first : last + 1]
+        margin = min(len(line) - len(line.lstrip()) for line in part if line)
+        code += ([""] if code else []) + [line[margin:] for line in part]
+    links = f"; names {', '.join(named)}" if named else ""
+    body = "\n".join(code)
+    return f"\n### `{name}`\n\n{file}, lines {' and '.join(spans)}{links}\n\n```\n{body}\n```\n"
+
+
 def headline(found):
     """The page docs/HEADLINE.md, how many lines of the sources it has, and from how many files."""
     reading = Reading(found)
     order = [(node, reading.shown(node)) for node in reading.ordered()]
     order = [(node, it) for node, it in order if it]
-    calls = [it for node, it in order if node[0] == "call"]
-    calls.sort(key=lambda it: [name.split("::", 1)[1] for name in HEADLINE].index(it[0]))
-    others = [it for node, it in order if node[0] != "call"]
+    calls = [(node, it) for node, it in order if node[0] == "call"]
+    calls.sort(key=lambda pair: HEADLINE.index(pair[0][1]))
+    others = [(node, it) for node, it in order if node[0] != "call"]
 
     def size(parts):
-        return sum(last - first + 1 for *_, ranges in parts for first, last in ranges)
+        return sum(last - first + 1 for _, (*_, ranges) in parts for first, last in ranges)
 
-    numbers = {"lines": size(calls + others), "clauses": size(calls), "calls": len(calls), "definitions": size(others)}
-    files = {it[1] for it in others}
-    numbers |= {"files": len(files), "types": sum(node[0] == "type" for node, _ in order)}
+    numbers = {"lines": size(order), "clauses": size(calls), "calls": len(calls), "definitions": size(others)}
+    numbers |= {"files": len({it[1] for _, it in order}), "types": sum(node[0] == "type" for node, _ in order)}
     text = HEADLINE_PAGE.format(**numbers)
     for title, parts in (("The clauses", calls), ("The definitions", others)):
         text += f"\n## {title}\n"
-        for name, file, lines, ranges in parts:
-            spans = [f"{first + 1} to {last + 1}" if first < last else f"{first + 1}" for first, last in ranges]
-            where = f"lines {' and '.join(spans)}"
-            code = []
-            for first, last in ranges:
-                part = lines[first : last + 1]
-                margin = min(len(line) - len(line.lstrip()) for line in part if line)
-                code += ([""] if code else []) + [line[margin:] for line in part]
-            body = "\n".join(code)
-            text += f"\n### `{name}`\n\n{file}, {where}\n\n```\n{body}\n```\n"
-    return text, numbers["lines"], len(files | {it[1] for it in calls})
+        for node, shown in parts:
+            named = [reading.shown(it)[0] for it in reading.leads_to(node) if it != node and reading.shown(it)]
+            text += part_of_page(shown, linked(named))
+    return text, numbers["lines"], numbers["files"]
 
 
 def lines_wanted():
