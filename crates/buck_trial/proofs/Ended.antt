@@ -1,5 +1,5 @@
 -- How a run over files ends.
-use Rattle.std.proofs.Common.{◌≡◌, ℕ, inl, inr, List, length, Option, Some, None, Result, Ok, Err, refl, sym, ap, subst}
+use Rattle.std.proofs.Common.{◌≡◌, ◌⊎◌, ℕ, inl, inr, List, length, Option, Some, None, Result, Ok, Err, refl, sym, ap, subst}
 use Rattle.std.specs.Result.{IsErrAnd}
 use Rattle.std.specs.declared.sync.Arc.{Arc}
 use Rattle.std.specs.declared.vec.Vec.{Vec}
@@ -9,8 +9,8 @@ use Rattle.std.proofs.KnownBytes.{Keeps-refl}
 use Rattle.buck_apt.specs.Instruction.{InstructionParts}
 use Rattle.buck_stem.specs.declared.stem.Stem.{Stem}
 use Rattle.buck_engine.specs.declared.fault.EngineFault.{EngineFault}
-use Rattle.buck_engine.specs.declared.fault.EngineFault.TheVariants.{Write}
-use Rattle.buck_engine.specs.fleet.Running.{IsCuttingFault}
+use Rattle.buck_engine.specs.declared.fault.EngineFault.TheVariants.{Full, Write}
+use Rattle.buck_engine.specs.fleet.Running.{HaveTooMany, IsCuttingFault, IsFleetFault}
 use Rattle.buck_engine.specs.text.Written.{AppendsSome, IsWritten, WritesText}
 use Rattle.buck_engine.proofs.Lists.{accepted, too_many}
 use Rattle.buck_engine.proofs.Runs.{IsNoWrite, fleet_fault, no_answer}
@@ -19,7 +19,8 @@ use Rattle.buck_terms.specs.declared.fault.TermsFault.{TermsFault}
 use Rattle.buck_terms.specs.declared.fault.TermsFault.TheVariants.{Run}
 use Rattle.buck_terms.specs.Telling.{WritesTerms}
 use Rattle.buck_trial.specs.declared.reading.Opened.{Opened}
-use Rattle.buck_trial.specs.Inputs.{AnswersFiles, IsInputFault, SaysInput}
+use Rattle.buck_trial.specs.Inputs.{AnswersFiles, IsInputFault, IsTargetsStop, SaysInput}
+use Rattle.buck_trial.proofs.ReadLemmas.{no_crew}
 use Rattle.buck_trial.specs.Serving.{RunsFiles}
 use Rattle.buck_trial.specs.inner.Running.{AnswersOver, in_terms}
 
@@ -32,12 +33,15 @@ no_write fault (inr (inr close)) = subst IsNoWrite (sym close.1) tt
 pub stop_is_fault : (apt : Option (List ℕ)) (stms : List (Option (List ℕ))) (targets : Option (Option (List ℕ) × ℕ))
     (i : InstructionParts) (lists : List (Vec (Arc Stem Global) Global)) (fault : EngineFault)
     → SaysInput apt stms targets i lists → IsStop lists fault → IsInputFault apt stms targets (Run fault)
-stop_is_fault apt stms targets i lists fault says stop = inl (
-  fault,
-  refl,
-  inr (inr ((says.own, says.apt_says), inr (accepted (length stms) stms lists says.stms_say, stop.0))),
-  too_many {X = Unit {0}} stms lists (length stms) (Err fault) says.one_each refl says.stms_say stop.1,
-)
+stop_is_fault apt stms targets i lists fault says stop = record {
+  seats = no_crew (length stms) says.crew;
+  cause = inl (
+    fault,
+    refl,
+    inr (inr ((says.own, says.apt_says), inr (accepted (length stms) stms lists says.stms_say, stop.0))),
+    too_many {X = Unit {0}} stms lists (length stms) (Err fault) says.one_each refl says.stms_say stop.1,
+  );
+}
 
 -- nothing is written where lists aren't cut
 pub nothing_over : (lists : List (Vec (Arc Stem Global) Global)) (IsText : List ℕ → Type 0) (old : Option (List ℕ))
@@ -77,7 +81,9 @@ no_terms Answers old (Run Write) other a = absurd other
 no_terms Answers old fault other a = (a, Keeps-refl old)
 
 no_write_terms : (apt : Option (List ℕ)) (stms : List (Option (List ℕ))) (targets : Option (Option (List ℕ) × ℕ))
-    (fault : TermsFault) → IsInputFault apt stms targets fault → IsNoWriteTerms fault
+    (fault : TermsFault)
+    → ((why : EngineFault) × (fault ≡ Run why) × IsFleetFault apt stms why × (why ≡ Full → HaveTooMany stms))
+    ⊎ IsTargetsStop apt stms targets fault → IsNoWriteTerms fault
 no_write_terms apt stms targets fault (inl (why, is, fleet, full)) =
     subst IsNoWriteTerms (sym is) (fleet_fault apt stms why fleet)
 no_write_terms apt stms None fault (inr stop) = absurd stop
@@ -103,7 +109,7 @@ not_read Answers apt stms targets old fault (Ok u) err is refused = absurd err
 not_read Answers apt stms targets old fault (Err e) err is refused =
     let here : IsInputFault apt stms targets e =
     subst (λ (x : TermsFault). IsInputFault apt stms targets x) (sym err) is in
-    no_terms Answers old e (no_write_terms apt stms targets e here) (refused e here)
+    no_terms Answers old e (no_write_terms apt stms targets e here.cause) (refused e here)
 
 -- and one over files that were read
 pub files_run : (Answers : Result (List ℕ) TermsFault → Type 0) (IsText : List ℕ → Type 0) (apt : Option (List ℕ))

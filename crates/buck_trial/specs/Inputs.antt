@@ -1,5 +1,5 @@
 -- What the files of a trial say.
-use Rattle.std.specs.Prelude.{◌≡◌, ◌⊎◌, ◌+◌, ℕ, min, List, length, Option, Some, None, Result, Ok, Err}
+use Rattle.std.specs.Prelude.{◌≡◌, ◌⊎◌, ◌<◌, ◌≤◌, ◌+◌, ℕ, min, List, length, Option, Some, None, Result, Ok, Err}
 use Rattle.std.specs.Option.{option_map}
 use Rattle.std.specs.declared.sync.Arc.{Arc}
 use Rattle.std.specs.declared.vec.Vec.{Vec}
@@ -8,9 +8,11 @@ use Rattle.buck_apt.specs.Apt.{apt_of}
 use Rattle.buck_apt.specs.Instruction.{InstructionParts}
 use Rattle.buck_apt.specs.Wanted.{with_targets}
 use Rattle.buck_stem.specs.declared.stem.Stem.{Stem}
+use Rattle.buck_book.specs.declared.posting.TheConstants.{MOST_POSTINGS}
+use Rattle.buck_turn.specs.Turn.{stems_in_all}
 use Rattle.buck_engine.specs.declared.fault.EngineFault.{EngineFault}
-use Rattle.buck_engine.specs.declared.fault.EngineFault.TheVariants.{Full}
-use Rattle.buck_engine.specs.fleet.Running.{AreAccepted, AreListsOf, HaveTooMany, IsFleetFault}
+use Rattle.buck_engine.specs.declared.fault.EngineFault.TheVariants.{Full, Seats}
+use Rattle.buck_engine.specs.fleet.Running.{AreListsOf, AreNoSeats, HaveTooMany, IsFleetFault}
 use Rattle.buck_engine.specs.run.Opening.{AnswersInputs}
 use Rattle.buck_engine.specs.run.Reading.{Says}
 use Rattle.buck_terms.specs.declared.fault.TermsFault.{TermsFault}
@@ -23,32 +25,39 @@ abbrev pub HasWanted : InstructionParts → Option (Option (List ℕ) × ℕ) �
 HasWanted own None i = i ≡ own
 HasWanted own (Some file) i = (targets : List ℕ) × SaysTargets own file.0 targets × (i ≡ with_targets targets own)
 
--- the instruction and the lists of stems that the files of a trial have
+-- the instruction and the lists of stems that the files of a trial have, which are 1 to 64 stem files
 pub record SaysInput (apt : Option (List ℕ)) (stms : List (Option (List ℕ))) (targets : Option (Option (List ℕ) × ℕ))
     (i : InstructionParts) (lists : List (Vec (Arc Stem Global) Global)) : Type 0 where
+  pub crew : (0 < length stms) × (length stms ≤ 64)
   pub own : InstructionParts
   pub apt_says : Says apt_of apt (Ok own)
   pub one_each : length lists ≡ length stms
   pub stms_say : AreListsOf (length stms) stms lists
   pub wanted : HasWanted own targets i
 
--- the file of targets is refused, and all files before it are accepted
+-- the file of targets is refused; all files before it are accepted, and their stems aren't too many
 pub record IsLastFault (apt : Option (List ℕ)) (stms : List (Option (List ℕ))) (file : Option (List ℕ)) (number : ℕ)
     (fault : TermsFault) : Type 0 where
   pub own : InstructionParts
   pub apt_says : Says apt_of apt (Ok own)
-  pub accepted : AreAccepted (length stms) stms
+  pub lists : List (Vec (Arc Stem Global) Global)
+  pub one_each : length lists ≡ length stms
+  pub stms_say : AreListsOf (length stms) stms lists
+  pub few : stems_in_all lists ≤ MOST_POSTINGS
   pub is_fault : IsTargetsFileFault number own file fault
 
 abbrev pub IsTargetsStop : Option (List ℕ) → List (Option (List ℕ)) → Option (Option (List ℕ) × ℕ) → TermsFault → Type 0
 IsTargetsStop apt stms None fault = ⊥
 IsTargetsStop apt stms (Some file) fault = IsLastFault apt stms file.0 file.1 fault
 
--- why the files of a trial come to nothing: as those of a fleet, or for their file of targets
-abbrev pub IsInputFault : Option (List ℕ) → List (Option (List ℕ)) → Option (Option (List ℕ) × ℕ) → TermsFault → Type 0
-IsInputFault apt stms targets fault =
-    ((why : EngineFault) × (fault ≡ Run why) × IsFleetFault apt stms why × (why ≡ Full → HaveTooMany stms))
-    ⊎ IsTargetsStop apt stms targets fault
+-- why the files of a trial come to nothing: there are no 1 to 64 stem files, or else as those of a fleet, or for their
+-- file of targets
+pub record IsInputFault (apt : Option (List ℕ)) (stms : List (Option (List ℕ)))
+    (targets : Option (Option (List ℕ) × ℕ)) (fault : TermsFault) : Type 0 where
+  pub seats : AreNoSeats (length stms) → fault ≡ Run Seats
+  pub cause :
+      ((why : EngineFault) × (fault ≡ Run why) × IsFleetFault apt stms why × (why ≡ Full → HaveTooMany stms))
+      ⊎ IsTargetsStop apt stms targets fault
 
 -- the files are opened by their names, the file of targets last
 pub record OpensFiles {O F : Type 0} (opens : O → List ℕ → Option F → O → Type 0) (old new : O) (apt : List ℕ)

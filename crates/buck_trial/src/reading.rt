@@ -1,10 +1,11 @@
 //! The files of a trial: an instruction, stem files, and a file of targets, where one is named.
 ghost use Rattle.std.specs.Prelude.{◌≡◌, ◌<◌, ◌≤◌, IfErr, IfOk, None, OnOk, Some, length, map};
 ghost use Rattle.std.specs.Option.{option_map};
-ghost use Rattle.buck_engine.specs.declared.fault.EngineFault.TheVariants.{Full};
+ghost use Rattle.std.specs.Result.{IsErrAnd};
+ghost use Rattle.buck_engine.specs.declared.fault.EngineFault.TheVariants.{Full, Seats};
 ghost use Rattle.buck_turn.specs.Turn.{stems_in_all};
 ghost use Rattle.buck_book.specs.declared.posting.TheConstants.{MOST_POSTINGS};
-ghost use Rattle.buck_engine.specs.fleet.Running.{HaveTooMany, IsFleetFault};
+ghost use Rattle.buck_engine.specs.fleet.Running.{AreNoSeats, HaveTooMany, IsFleetFault};
 ghost use Rattle.buck_terms.specs.Reading.{IsTargetsFileFault};
 ghost use Rattle.buck_trial.specs.Inputs.{AnswersFiles, HasWanted, IsInputFault, SaysInput, held_with};
 ghost use Rattle.buck_trial.specs.inner.Running.{in_terms};
@@ -68,6 +69,7 @@ fn check_room(lists: &[Vec<Arc<Stem>>]) -> Result<(), EngineFault>
 
 /// The instruction and the stems that the files have, where a history has room for these.
 fn read_stems<R: io::Read>(alloc: Global, apt: &mut R, stms: &mut [R]) -> Result<Input, EngineFault>
+    ensures seats { AreNoSeats (length stms.old) → IsErrAnd result (λ fault. fault ≡ Seats) }
     ensures few { IfOk result (λ input. length input.lists.items ≤ 64) }
     ensures room { IfOk result (λ input. stems_in_all input.lists.items ≤ MOST_POSTINGS) }
     ensures says { IfOk result (λ input. SaysInput (R.remaining apt.old) (map R.remaining stms.old) None
