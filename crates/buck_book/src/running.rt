@@ -119,7 +119,7 @@ impl Running {
         })
     }
 
-    /// The sheet in force: its prices are the rule's answers to how the classes stand.
+    /// The sheet in force: its prices are the rule's answers to how the classes stand. Refused as `Memory` alone.
     #[tactic(auto, using(crate::proofs::Told::prices_can, crate::proofs::Standings::no_price_fault, crate::proofs::Standings::is_sheet))]
     pub fn sheet<F: Fn(&Standing) -> u64>(
         &self,

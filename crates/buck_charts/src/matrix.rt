@@ -14,9 +14,10 @@ use std::fmt;
 /// A matrix of more columns says one figure in a cell, and the rest in its title.
 const WIDE: usize = 12;
 
-/// Two matrices stand side by side up to so many columns, where so many pixels are wide enough for each.
+/// Greatest number of columns of two matrices that stand side by side.
 const BESIDE: usize = 4;
 
+/// Greatest width in pixels that each of two matrices side by side may need.
 const HALF: u64 = 480;
 
 /// Which differences, in per mille, have which of the three shades: each from its step on.

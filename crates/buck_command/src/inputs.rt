@@ -176,7 +176,7 @@ impl<'a, W> Outlet<'a, W> {
         self.refused.get()
     }
 
-    /// Whether nobody reads any more what is written.
+    /// Whether the pipe that is written to has no reader left.
     pub(crate) fn is_gone(&self) -> bool {
         self.refused.get() == Some(ErrorKind::BrokenPipe)
     }

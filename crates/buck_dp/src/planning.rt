@@ -14,7 +14,7 @@ use buck_stem::{Grades, Profile, Stem};
 use buck_value::Sheet;
 use std::alloc::Global;
 
-/// No trim is longer than so many mm.
+/// Greatest trim, in mm.
 const MOST_TRIM: u32 = 200;
 
 /// A stem at its points, the multiples of the module.

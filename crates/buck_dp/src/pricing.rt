@@ -224,7 +224,7 @@ pub fn put_list(
     Ok(())
 }
 
-/// A limit above all diameters of a stem.
+/// A diameter in mm above all that a stem may have.
 const ABOVE_ALL: u32 = 1_504;
 
 /// A range of top diameters within which no assortment changes its row.

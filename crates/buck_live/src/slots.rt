@@ -12,10 +12,13 @@ pub(crate) const PREVIEW: Slot = slot!(955, 1, 1..=1);
 /// An operator's own logs of a stem: for each its start and its length in mm, and its assortment, from 0.
 pub(crate) const OWN: Slot = slot!(956, 1);
 
+/// Greatest start of an operator's own log, in mm from the butt.
 pub(crate) const HIGHEST_START: u32 = STARTS.high;
 
+/// Greatest length of an operator's own log, in mm.
 pub(crate) const HIGHEST_LENGTH: u32 = LENGTHS.high;
 
+/// Greatest index of the assortment of an operator's own log, from 0.
 pub(crate) const HIGHEST_ASSORTMENT: u32 = 15;
 
 /// The most logs of an operator's own.

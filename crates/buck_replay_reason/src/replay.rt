@@ -21,13 +21,16 @@ pub struct Unlawful<'a> {
     pub journal: &'a Journal,
 }
 
-/// The items of a posting, counted from 0.
+/// Index of the item of a posting, from 0, that says whose call it is.
 const CALL: usize = 0;
 
+/// Index of the item of a demand, from 0, that has the targets.
 const TARGETS: usize = 1;
 
+/// Index of the item of a cut, from 0, that has the logs.
 const LOGS: usize = 4;
 
+/// Index of the item of a cut, from 0, that has the worth.
 const WORTH: usize = 5;
 
 impl<'a> Unlawful<'a> {

@@ -11,9 +11,10 @@ use buck_record::Memory;
 use buck_words::half_up;
 use std::alloc::Global;
 
-/// The most that a target may be, and all targets of an assortment together.
+/// Greatest target of a class, in logs.
 const MOST: u128 = 1_000_000;
 
+/// Greatest sum of the targets of an assortment, in logs.
 const MOST_TOGETHER: u128 = 1_000_000_000;
 
 /// What is wanted of the classes of an assortment, and how many logs they have unsteered.
