@@ -25,7 +25,7 @@ use Rattle.buck_ledger.specs.declared.task.AppraiseTask.{AppraiseTask}
 use Rattle.buck_ledger.specs.declared.task.CompareTask.{CompareTask}
 use Rattle.buck_ledger.specs.Appraisal.{IsAppraisal}
 use Rattle.buck_ledger.specs.Comparison.{SaysTwo}
-use Rattle.buck_ledger.specs.Serving.{AnswersAppraise, AnswersCompare}
+use Rattle.buck_ledger.specs.Serving.{AnswersAppraise, AnswersCompare, HasOwner}
 
 -- no text of an appraisal
 module _ (task : AppraiseTask) (apt : Option (List ℕ)) (files : List (Option (List ℕ)))
@@ -56,37 +56,43 @@ module _ (task : AppraiseTask) (apt : Option (List ℕ)) (files : List (Option (
   pub replay_stops : {A : Type 0} (i : InstructionParts) (js : List JournalParts) (e : EngineFault)
       (r : Result (Vec ℕ A) TermsFault) → IsErrAnd r (λ x. x ≡ Run e)
       → Says (apt_with task.settings) apt (Ok i) → HaveJournals files js → length (postings_of js) ≤ MOST_POSTINGS
+      → HasOwner own.0 i
       → (e ≡ Memory) ⊎ ((place : ℕ) × (why : ReplayFault) × (e ≡ replay_fault (length js) place why)
       × IsFirstUnlawful i js place why)
       → AnswersAppraise task apt files own (listed r)
-  replay_stops i js e (Ok v) h says have few is = absurd h
-  replay_stops {A = A} i js e (Err x) h says have few (inl memory) =
+  replay_stops i js e (Ok v) h says have few owned is = absurd h
+  replay_stops {A = A} i js e (Err x) h says have few owned (inl memory) =
       memory_stops {A = A} (Err x) (h ∙ ap (λ f. Run f) memory)
-  replay_stops i js e (Err x) h says have few (inr (place, why, named, first)) = inr (inr (record {
+  replay_stops i js e (Err x) h says have few owned (inr (place, why, named, first)) = inr (inr (record {
     instruction = i;
     read = js;
     apt_says = says;
     journals_say = have;
     few = few;
     holds = (
-      place,
-      why,
-      h ∙ ap (λ f. Run f) (named ∙ ap (λ n. replay_fault n place why) have.one_each),
-      first,
+      owned,
+      (
+        place,
+        why,
+        h ∙ ap (λ f. Run f) (named ∙ ap (λ n. replay_fault n place why) have.one_each),
+        first,
+      ),
     );
   }))
 
   pub appraised_so : (i owner : InstructionParts) (js : List JournalParts) (text : List ℕ)
-      → Says (apt_with task.settings) apt (Ok i) → HaveJournals files js → Says apt_of own.0 (Ok owner)
-      → HasShapeOf i owner → AreLawful i js → (p : Appraisal) × IsAppraisal owner (postings_of js) p
+      → Says (apt_with task.settings) apt (Ok i) → HaveJournals files js → length (postings_of js) ≤ MOST_POSTINGS
+      → Says apt_of own.0 (Ok owner) → HasShapeOf i owner → AreLawful i js
+      → (p : Appraisal) × IsAppraisal owner (postings_of js) p
       → AnswersAppraise task apt files own (Ok text)
-  appraised_so i owner js text says have own_says shape lawful (p, is) = record {
+  appraised_so i owner js text says have few own_says shape lawful (p, is) = record {
     instruction = i;
     journals = js;
     owner = owner;
     appraisal = p;
     apt_says = says;
     journals_say = have;
+    few = few;
     own_says = own_says;
     shape = shape;
     lawful = lawful;

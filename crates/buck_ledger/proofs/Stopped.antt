@@ -60,7 +60,7 @@ appraise_no_write task apt files own fault (inl is) =
 appraise_no_write task apt files own fault (inr (inl have)) =
     own_no_write own.1 have.instruction own.0 fault have.holds
 appraise_no_write task apt files own fault (inr (inr have)) =
-    subst IsNotWrite (sym have.holds.2) (replay_no_write (length files == 1) have.holds.0 have.holds.1)
+    subst IsNotWrite (sym have.holds.1.2) (replay_no_write (length files == 1) have.holds.1.0 have.holds.1.1)
 
 -- nothing is written where the answer is a fault
 stopped : (Answers : Result (List ℕ) TermsFault → Type 0) (old : Option (List ℕ)) (fault : TermsFault)

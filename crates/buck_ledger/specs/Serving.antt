@@ -1,8 +1,9 @@
 -- How whole runs over journals end: what is opened, and what is written.
-use Rattle.std.specs.Prelude.{◌≡◌, ◌⊎◌, ℕ, ◌+◌, List, length, map, Option, Result, Ok, Err}
+use Rattle.std.specs.Prelude.{◌≡◌, ◌⊎◌, ◌≤◌, ℕ, ◌+◌, List, length, map, Option, Result, Ok, Err}
 use Rattle.std.specs.Io.KnownBytes.{Keeps}
 use Rattle.buck_apt.specs.Apt.{apt_of}
 use Rattle.buck_apt.specs.Instruction.{InstructionParts}
+use Rattle.buck_book.specs.declared.posting.TheConstants.{MOST_POSTINGS}
 use Rattle.buck_journal.specs.reading.Journal.{JournalParts}
 use Rattle.buck_figures.specs.Journals.{postings_of}
 use Rattle.buck_engine.specs.declared.fault.EngineFault.{EngineFault}
@@ -22,7 +23,8 @@ use Rattle.buck_ledger.specs.declared.task.CompareTask.{CompareTask}
 use Rattle.buck_ledger.specs.Appraisal.{IsAppraisal}
 use Rattle.buck_ledger.specs.Comparison.{AreBothLawful, IsCompareFault, SaysTwo}
 
--- an appraisal over files: lawful journals of the instruction, and an owner's instruction that may stand beside it
+-- an appraisal over files: lawful journals of the instruction, of at most 1,000,000 postings together, and an owner's
+-- instruction that may stand beside it
 pub record IsAppraised (task : AppraiseTask) (apt : Option (List ℕ)) (files : List (Option (List ℕ)))
     (own : Option (List ℕ)) : Type 0 where
   pub instruction : InstructionParts
@@ -31,19 +33,25 @@ pub record IsAppraised (task : AppraiseTask) (apt : Option (List ℕ)) (files : 
   pub appraisal : Appraisal
   pub apt_says : Says (apt_with task.settings) apt (Ok instruction)
   pub journals_say : HaveJournals files journals
+  pub few : length (postings_of journals) ≤ MOST_POSTINGS
   pub own_says : Says apt_of own (Ok owner)
   pub shape : HasShapeOf instruction owner
   pub lawful : AreLawful instruction journals
   pub is_appraisal : IsAppraisal owner (postings_of journals) appraisal
 
--- why there is none: as of journals that are shown, or the owner's instruction is refused, before a journal is replayed
+-- an owner's instruction may stand beside the instruction
+abbrev pub HasOwner : Option (List ℕ) → InstructionParts → Type 0
+HasOwner own i = (owner : InstructionParts) × Says apt_of own (Ok owner) × HasShapeOf i owner
+
+-- why there is none: as of journals that are shown; or the owner's instruction is refused; or, where it isn't, a journal
+-- isn't lawful
 abbrev pub IsAppraiseFault : AppraiseTask → Option (List ℕ) → List (Option (List ℕ)) → Option (List ℕ) × ℕ → TermsFault
     → Type 0
 IsAppraiseFault task apt files own fault =
     ((why : EngineFault) × (fault ≡ Run why) × IsSeveralFault apt files why)
     ⊎ (HaveSeveral (apt_with task.settings) (λ i js. IsOwnFileFault own.1 i own.0 fault) apt files
-    ⊎ HaveSeveral (apt_with task.settings) (λ i js. (place : ℕ) × (why : _)
-    × (fault ≡ Run (replay_fault (length files) place why)) × IsFirstUnlawful i js place why) apt files)
+    ⊎ HaveSeveral (apt_with task.settings) (λ i js. HasOwner own.0 i × ((place : ℕ) × (why : _)
+    × (fault ≡ Run (replay_fault (length files) place why)) × IsFirstUnlawful i js place why)) apt files)
 
 -- the text of an appraisal, or why there is none
 abbrev pub AnswersAppraise : AppraiseTask → Option (List ℕ) → List (Option (List ℕ)) → Option (List ℕ) × ℕ
