@@ -12,3 +12,4 @@ pub mod Gains
 pub mod ReadLemmas
 pub mod RunLemmas
 pub mod Spreads
+pub mod Tuned

@@ -9,8 +9,10 @@ use Rattle.buck_trial.specs.declared.reading.Opened.{Opened}
 use Rattle.buck_trial.specs.declared.task.TrialTask.{TrialTask}
 use Rattle.buck_trial.specs.Inputs.{AnswersFiles, held_with}
 use Rattle.buck_terms.specs.Telling.{WritesTerms}
+use Rattle.buck_trial.specs.declared.task.TuneTask.{TuneTask}
 use Rattle.buck_trial.specs.declared.task.WishesTask.{WishesTask}
 use Rattle.buck_trial.specs.Trial.{AnswersTrial}
+use Rattle.buck_trial.specs.Tune.{AnswersTune}
 use Rattle.buck_trial.specs.Wishes.{AnswersWishes}
 
 -- a run over the files that were opened; where one can't be, nothing is written
@@ -28,7 +30,7 @@ pub record RunsFiles {O F : Type 0} (opens : O → List ℕ → Option F → O �
   pub answers : AnswersFiles opens start end apt stms targets opened
   pub runs : RunsOpened Answers opened old new outcome
 
--- that of a trial, and that of wishes
+-- that of a trial, that of wishes, and that of an instruction that is tuned
 abbrev pub RunsTrial : {O F : Type 0} → (O → List ℕ → Option F → O → Type 0) → (F → Option (List ℕ)) → O → O
     → TrialTask → Option (List ℕ) → Option (List ℕ) → Result (Unit {0}) TermsFault → Type 0
 RunsTrial opens held start end task old new outcome =
@@ -42,5 +44,13 @@ abbrev pub RunsWishes : {O F : Type 0} → (O → List ℕ → Option F → O �
 RunsWishes opens held start end task old new outcome =
     RunsFiles opens
     (λ files. AnswersWishes task.rule task.settings task.draws (held files.apt) (map held files.stms.items)
+    (held_with held files.targets)) start end task.apt.now (map (λ s. s.now) task.stms.items)
+    (option_map (λ s. s.now) task.targets) old new outcome
+
+abbrev pub RunsTune : {O F : Type 0} → (O → List ℕ → Option F → O → Type 0) → (F → Option (List ℕ)) → O → O
+    → TuneTask → Option (List ℕ) → Option (List ℕ) → Result (Unit {0}) TermsFault → Type 0
+RunsTune opens held start end task old new outcome =
+    RunsFiles opens
+    (λ files. AnswersTune task.rule task.settings (held files.apt) (map held files.stms.items)
     (held_with held files.targets)) start end task.apt.now (map (λ s. s.now) task.stms.items)
     (option_map (λ s. s.now) task.targets) old new outcome

@@ -2,8 +2,9 @@
 //!
 //! [`serve_trial`] compares rules, periods and limits as a sweep does, with other targets than the instruction's, and
 //! over orders of the stems that are drawn by chance. [`serve_wishes`] finds what each target costs: a run with each in
-//! its turn moved half way to what the class has unsteered. [`run_trial`] and [`run_wishes`] are the same over open
-//! files, [`TrialTask`] and [`WishesTask`] what they are asked.
+//! its turn moved half way to what the class has unsteered. [`serve_tune`] finds the base prices that such stems ask for.
+//! [`run_trial`], [`run_wishes`] and [`run_tune`] are the same over open files, [`TrialTask`], [`WishesTask`] and
+//! [`TuneTask`] what they are asked.
 #![tactic(auto)]
 
 mod asking;
@@ -16,6 +17,7 @@ mod serving;
 mod table;
 mod task;
 mod trial;
+mod tune;
 mod wish;
 mod wishes;
 
@@ -24,6 +26,7 @@ pub use buck_terms::TermsFault;
 pub use moved::moved_targets;
 pub use reading::Opened;
 pub use serving::{serve_trial, serve_wishes};
-pub use task::{TrialTask, WishesTask};
+pub use task::{TrialTask, TuneTask, WishesTask};
 pub use trial::run_trial;
+pub use tune::{run_tune, serve_tune};
 pub use wishes::run_wishes;

@@ -39,3 +39,18 @@ pub struct WishesTask<'a> {
     /// How many runs may be done at once, in threads of their own; where nothing is said, as many as the machine has.
     pub threads: Option<u8>,
 }
+
+/// What the words of the command line ask of an instruction that is to be tuned.
+#[derive(Drop)]
+pub struct TuneTask<'a> {
+    /// How prices follow what is cut.
+    pub rule: NamedRule,
+    /// The numbers that are put in the place of the instruction's own, for the run alone.
+    pub settings: Settings,
+    /// The name of the instruction file.
+    pub apt: &'a str,
+    /// The names of the stem files, one for each harvester.
+    pub stms: Vec<&'a str>,
+    /// The name of the file of targets, where there is one.
+    pub targets: Option<&'a str>,
+}
