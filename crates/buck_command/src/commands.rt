@@ -1,8 +1,8 @@
 //! The commands with their options and files, as `clap` reads them and tells of them.
 use crate::commands::Word::{
     AnyStms, Apt, Draws, Explain, First, InTurn, Journal, Journals, Limit, LimitEach, Limits, Line,
-    Out, Own, Period, PeriodEach, Periods, Quiet, Rule, RuleOfPrices, RuleOfWishes, Rules, Second,
-    Seed, Stm, Stms, Table, Targets, Threads,
+    Out, Own, Period, PeriodEach, Periods, Quiet, Rule, RuleOfPrices, RuleOfTuning, RuleOfWishes,
+    Rules, Second, Seed, Stm, Stms, Table, Targets, Threads,
 };
 use crate::help;
 use buck_rule::NamedRule;
@@ -22,6 +22,8 @@ enum Word {
     RuleOfPrices,
     /// The rule that wishes are granted under.
     RuleOfWishes,
+    /// The rule that prices are tuned by.
+    RuleOfTuning,
     Rules,
     Period,
     Limit,
@@ -62,7 +64,7 @@ struct Named {
 }
 
 /// The commands in the order of the help.
-static COMMANDS: [Named; 12] = [
+static COMMANDS: [Named; 13] = [
     Named {
         name: "buck",
         about: "Cuts each stem of a stem file into logs of the greatest worth",
@@ -94,6 +96,22 @@ static COMMANDS: [Named; 12] = [
             Targets,
             Draws,
             Seed,
+            Threads,
+            Quiet,
+            Apt,
+            Stms,
+            Explain,
+        ],
+    },
+    Named {
+        name: "tune",
+        about: "Finds base prices on the stems of a stand like the one to be cut",
+        help: help::TUNE,
+        words: &[
+            RuleOfTuning,
+            Period,
+            Limit,
+            Targets,
             Threads,
             Quiet,
             Apt,
@@ -213,6 +231,9 @@ fn arg<'a>(alloc: Global, word: Word) -> Arg<'a> {
             .long_help(help::RULES),
         RuleOfPrices => rule(alloc, help::CHECKED_RULE),
         RuleOfWishes => rule(alloc, help::RULE).required(true),
+        RuleOfTuning => rule(alloc, help::RULE)
+            .default_value(NamedRule::Root.name())
+            .long_help(help::RULES),
         Rules => rule(alloc, help::SWEPT_RULES).action(ArgAction::Append),
         Period => option(alloc, "period", "N", help::PERIOD),
         Limit => option(alloc, "limit", "N", help::LIMIT),

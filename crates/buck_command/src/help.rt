@@ -171,6 +171,28 @@ Exit statuses:
 After 1, 3 and 5, and after too many stem files, one line on standard error says
 what went wrong; explain says it in words.";
 
+/// What comes of tuning, and how it ends.
+pub(crate) const TUNE: &str =
+    "Prints the instruction with other base prices: that of a class is the mean of
+its prices in force over all stems, which are cut as by fleet --in-turn. Cut a
+stand like theirs under it within a smaller limit: its prices need not be found
+again there. A class that is not bought stays so. N is for this run alone, and
+the instruction that is printed keeps its own. FILE is that of sweep, and its
+targets are printed. What stands in no table of docs/FORMATS.md is lost.
+
+Examples:
+  buckfleet tune --period 1 --limit 50 mill.apt bank.stm > tuned.apt
+  buckfleet tune --targets tuesday.txt mill.apt bank_1.stm bank_2.stm
+
+Exit statuses:
+  0  the instruction was printed
+  1  a file is refused
+  2  the words of the command line are wrong, or not 1 to 64 stem files
+  3  memory ran out, or there are more than 1000000 stems
+  5  a file can't be read, or the output can't be written
+After 1, 3 and 5, and after too many stem files, one line on standard error says
+what went wrong; explain says it in words.";
+
 /// What comes of an appraisal, and how it ends.
 pub(crate) const APPRAISE: &str =
     "Prints CSV: what the cuts of the journals bring under a contract, and what the

@@ -143,6 +143,10 @@ impl<'a> Subject<'a> {
                 settings: Some(&task.settings),
                 ..Subject::of_stems(alloc, task.apt, task.stms.as_slice(), task.targets)?
             }),
+            Work::Tune(task) => Ok(Subject {
+                settings: Some(&task.settings),
+                ..Subject::of_stems(alloc, task.apt, task.stms.as_slice(), task.targets)?
+            }),
             Work::Appraise(task) => Subject::of_appraisal(alloc, task),
             Work::Compare(task) => Ok(Subject {
                 second: Some(&task.second),

@@ -12,7 +12,7 @@ use buck_live::LiveTask;
 use buck_record::Memory;
 use buck_rule::NamedRule;
 use buck_sweep::{Combination, SweepTask, combinations};
-use buck_trial::{Draws, TrialTask, WishesTask};
+use buck_trial::{Draws, TrialTask, TuneTask, WishesTask};
 use clap::{ArgMatches, Error};
 use std::alloc::{AllocError, Global};
 
@@ -350,6 +350,21 @@ fn wishes_task<'a>(alloc: Global, words: &ArgMatches<'a>) -> Result<WishesTask<'
     })
 }
 
+/// What the words after `tune` ask for: it works in one thread, however many it may.
+fn tune_task<'a>(alloc: Global, words: &ArgMatches<'a>) -> Result<TuneTask<'a>, Unasked> {
+    let Some(rule) = NamedRule::of_name(word(words, "rule")?) else {
+        return Err(Unasked::Wrong(LOST));
+    };
+    let _ = asked_threads(words)?;
+    Ok(TuneTask {
+        rule,
+        settings: settings(words)?,
+        apt: word(words, "APT")?,
+        stms: asked_stems(alloc, words)?,
+        targets: words.get_str("targets"),
+    })
+}
+
 /// What the words after `live` ask for.
 fn live_task<'a>(words: &ArgMatches<'a>) -> Result<LiveTask<'a>, Unasked> {
     let Some(rule) = NamedRule::of_name(word(words, "rule")?) else {
@@ -502,6 +517,7 @@ fn work_of<'a>(alloc: Global, name: &str, words: &ArgMatches<'a>) -> Result<Work
         "fleet" => Ok(Work::Fleet(fleet_task(alloc, words)?)),
         "sweep" => sweep_work(alloc, words),
         "wishes" => Ok(Work::Wishes(wishes_task(alloc, words)?)),
+        "tune" => Ok(Work::Tune(tune_task(alloc, words)?)),
         "live" => Ok(Work::Live(live_task(words)?)),
         "view" => Ok(Work::View(view_task(alloc, words, Shown::Page)?)),
         "table" => {

@@ -10,7 +10,7 @@ use buck_ledger::{AppraiseTask, CompareTask, serve_appraise, serve_compare};
 use buck_live::{LiveTask, Replies, serve_live};
 use buck_sweep::{SweepTask, serve_sweep};
 use buck_terms::TermsFault;
-use buck_trial::{TrialTask, WishesTask, serve_trial, serve_wishes};
+use buck_trial::{TrialTask, TuneTask, WishesTask, serve_trial, serve_tune, serve_wishes};
 use std::alloc::Global;
 use std::io;
 use std::sync::Wait;
@@ -37,6 +37,8 @@ pub enum Work<'a> {
     Trial(TrialTask<'a>),
     /// It is to be found what each target costs.
     Wishes(WishesTask<'a>),
+    /// An instruction is to be tuned on stems.
+    Tune(TuneTask<'a>),
     /// Journals are to be appraised under an owner's instruction.
     Appraise(AppraiseTask<'a>),
     /// Two journals are to be set side by side.
@@ -63,7 +65,7 @@ pub struct Streams<R, W, E> {
 
 /// Does the work. Each fault and what is written before it are those of [`serve`], [`serve_buck`], [`serve_fleet`],
 /// [`serve_check`], [`serve_view`], [`serve_live`], [`serve_sweep`], [`serve_trial`], [`serve_wishes`],
-/// [`serve_appraise`] and [`serve_compare`].
+/// [`serve_tune`], [`serve_appraise`] and [`serve_compare`].
 pub fn serve_work<
     T: Threads + Wait + Sync,
     L: Onlooker + Sync,
@@ -93,6 +95,7 @@ pub fn serve_work<
         Work::Sweep(task) => Ok(serve_sweep(rt, alloc, task, files, output)?),
         Work::Trial(task) => serve_trial(rt, alloc, task, files, output),
         Work::Wishes(task) => serve_wishes(rt, alloc, task, files, output),
+        Work::Tune(task) => serve_tune(alloc, task, files, output),
         Work::Appraise(task) => serve_appraise(rt, alloc, task, files, output),
         Work::Compare(task) => Ok(serve_compare(rt, alloc, task, files, output)?),
     }
