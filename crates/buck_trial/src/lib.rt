@@ -28,5 +28,5 @@ pub use reading::Opened;
 pub use serving::{serve_trial, serve_wishes};
 pub use task::{TrialTask, TuneTask, WishesTask};
 pub use trial::run_trial;
-pub use tune::{run_tune, serve_tune};
+pub use tune::{run_tune, serve_tune, tuned_prices};
 pub use wishes::run_wishes;

@@ -78,9 +78,11 @@ fn tuned_price(parts: &Parts, class: usize, base: u32) -> u32
     mean.max(1).min(MOST_PRICE) as u32
 }
 
-/// The new base prices of all classes.
+/// The base prices that a history tunes, one for each class, assortment by assortment and row by row: that of a class
+/// is the mean of its prices in force over all postings, rounded to the nearest, a half upwards, and at least 1 and at
+/// most 10,000,000. A class that isn't bought stays so, and without postings all prices stay. Refused as `Memory` alone.
 #[tactic(auto, using(crate::proofs::Tuned::base_low))]
-fn tuned_prices(alloc: Global, parts: &Parts) -> Result<Vec<u32>, Memory>
+pub fn tuned_prices(alloc: Global, parts: &Parts) -> Result<Vec<u32>, Memory>
     ensures tuned { IfOk result (λ prices. AreTuned parts.now prices.items) }
     ensures low { IfOk result (λ prices. All (λ p. p ≤ 10000000) prices.items) }
 {
