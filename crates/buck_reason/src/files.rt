@@ -1,16 +1,13 @@
 //! Why an instruction or a stem file is refused.
-use crate::counts::{miscounted, too_great, uneven};
-use crate::form::{Form, Seen};
+use crate::form::{Refused, Seen};
 use crate::item::Key;
-use crate::numbers::{no_number, out_of_order, out_of_range};
-use crate::placing::{headless, missing, other_kind, twice};
-use crate::rows::key_of;
-use crate::source::Source;
+use crate::placing::headless;
+use crate::source::{Said, Source};
 use crate::whose::Kind;
 use buck_apt::AptFault;
 use buck_apt::slots::{LENGTHS, TARGETS};
 use buck_stem::StmFault;
-use std::alloc::{AllocError, Global};
+use std::alloc::Global;
 
 /// What is wrong with the items of a kind.
 #[derive(Clone, Copy)]
@@ -27,48 +24,41 @@ enum Wrong {
     Targets,
 }
 
-/// What is wrong with an item, where it is.
-fn complaint(
-    alloc: Global,
-    form: &Form,
-    source: &Source<'_>,
-    seen: &Seen<'_>,
-    wrong: Wrong,
-) -> Result<Option<String>, AllocError> {
-    match wrong {
-        Wrong::Missing | Wrong::Twice => Ok(None),
-        Wrong::Digits => no_number(alloc, source, seen),
-        Wrong::Range => out_of_range(alloc, source, seen),
-        Wrong::Order => out_of_order(alloc, form, source, seen),
-        Wrong::Count => miscounted(alloc, form, source, seen),
-        Wrong::Module(length) => uneven(alloc, source, seen, length),
-        Wrong::Targets => too_great(alloc, source, seen),
+impl Seen<'_> {
+    /// What is wrong with an item, where it is.
+    fn complaint(&self, wrong: Wrong) -> Said {
+        match wrong {
+            Wrong::Missing | Wrong::Twice => Ok(None),
+            Wrong::Digits => self.no_number(),
+            Wrong::Range => self.out_of_range(),
+            Wrong::Order => self.out_of_order(),
+            Wrong::Count => self.miscounted(),
+            Wrong::Module(length) => self.uneven(length),
+            Wrong::Targets => self.too_great(),
+        }
     }
 }
 
 /// What is wrong with the first item of a kind with which something is.
-fn first_wrong(
-    alloc: Global,
-    form: &Form,
-    source: &Source<'_>,
-    key: Key,
-    wrong: Wrong,
-) -> Result<Option<String>, AllocError> {
-    let mut open = None;
-    for item in source.items() {
-        let Some(row) = form.row(&item) else {
-            continue;
-        };
-        open = form.group_after(open, item, row);
-        if key_of(row) != key {
+fn of_items(file: &Refused<'_>, key: Key, wrong: Wrong) -> Said {
+    let Some(row) = file.row_of(key) else {
+        return Ok(None);
+    };
+    match wrong {
+        Wrong::Missing => return file.missing(row),
+        Wrong::Twice => return file.twice(row),
+        _ => {}
+    }
+    for item in file.source.items() {
+        if item.key() != Some(key) {
             continue;
         }
         let seen = Seen {
+            file: *file,
             item,
             row,
-            whose: form.whose(open, row),
         };
-        let said = complaint(alloc, form, source, &seen, wrong)?;
+        let said = seen.complaint(wrong)?;
         if said.is_some() {
             return Ok(said);
         }
@@ -76,39 +66,18 @@ fn first_wrong(
     Ok(None)
 }
 
-/// What is wrong with the items of a kind of a file.
-fn of_items(
-    alloc: Global,
-    form: &Form,
-    source: &Source<'_>,
-    key: Key,
-    wrong: Wrong,
-) -> Result<Option<String>, AllocError> {
-    let Some(row) = form.row_of(key) else {
-        return Ok(None);
-    };
-    match wrong {
-        Wrong::Missing => missing(alloc, form, source, row),
-        Wrong::Twice => twice(alloc, form, source, row),
-        _ => first_wrong(alloc, form, source, key, wrong),
-    }
-}
-
 /// Why an instruction file is refused, in lines of text, given its fault. None where nothing in the file is as the
-/// fault says. Refused where a growth was.
-pub fn apt_reason(
-    alloc: Global,
-    source: &Source<'_>,
-    fault: &AptFault,
-) -> Result<Option<String>, AllocError> {
-    let form = Form {
-        name: "APT",
+/// fault says. Refused as `Memory` alone.
+pub fn apt_reason(alloc: Global, source: &Source<'_>, fault: &AptFault) -> Said {
+    let file = Refused {
+        alloc,
+        source: *source,
         rows: [&buck_apt::ITEMS, &[]],
         kind: Kind::Assortment,
     };
     let (key, wrong) = match *fault {
         AptFault::Head { item } => return headless(alloc, source, item),
-        AptFault::NotApt => return other_kind(alloc, &form, source),
+        AptFault::NotApt => return file.other_kind("APT"),
         AptFault::Missing { number, kind } => (Key { number, kind }, Wrong::Missing),
         AptFault::Twice { number, kind } => (Key { number, kind }, Wrong::Twice),
         AptFault::Digits { number, kind, .. } => (Key { number, kind }, Wrong::Digits),
@@ -119,19 +88,14 @@ pub fn apt_reason(
         AptFault::Targets { .. } => (Key::of(TARGETS), Wrong::Targets),
         AptFault::Memory => return Ok(None),
     };
-    of_items(alloc, &form, source, key, wrong)
+    of_items(&file, key, wrong)
 }
 
 /// Why stems are refused, in a file or in a request, in lines of text, given the fault.
-pub(crate) fn stems_reason(
-    alloc: Global,
-    form: &Form,
-    source: &Source<'_>,
-    fault: &StmFault,
-) -> Result<Option<String>, AllocError> {
+pub(crate) fn stems_reason(file: &Refused<'_>, fault: &StmFault) -> Said {
     let (key, wrong) = match *fault {
-        StmFault::Head { item } => return headless(alloc, source, item),
-        StmFault::NotStm => return other_kind(alloc, form, source),
+        StmFault::Head { item } => return headless(file.alloc, &file.source, item),
+        StmFault::NotStm => return file.other_kind("STM"),
         StmFault::Missing { number, kind } => (Key { number, kind }, Wrong::Missing),
         StmFault::Twice { number, kind } => (Key { number, kind }, Wrong::Twice),
         StmFault::Digits { number, kind, .. } => (Key { number, kind }, Wrong::Digits),
@@ -140,20 +104,17 @@ pub(crate) fn stems_reason(
         StmFault::Count { number, kind } => (Key { number, kind }, Wrong::Count),
         StmFault::Memory => return Ok(None),
     };
-    of_items(alloc, form, source, key, wrong)
+    of_items(file, key, wrong)
 }
 
 /// Why a stem file is refused, in lines of text, given its fault. None where nothing in the file is as the fault says.
 /// Refused where a growth was.
-pub fn stm_reason(
-    alloc: Global,
-    source: &Source<'_>,
-    fault: &StmFault,
-) -> Result<Option<String>, AllocError> {
-    let form = Form {
-        name: "STM",
+pub fn stm_reason(alloc: Global, source: &Source<'_>, fault: &StmFault) -> Said {
+    let file = Refused {
+        alloc,
+        source: *source,
         rows: [&buck_stem::ITEMS, &[]],
         kind: Kind::Stem,
     };
-    stems_reason(alloc, &form, source, fault)
+    stems_reason(&file, fault)
 }

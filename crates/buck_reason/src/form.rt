@@ -1,55 +1,42 @@
-//! Files whose items stand in groups: instructions and stem files.
+//! Files whose items stand in groups, and what is said of them.
 use crate::item::{Item, Key};
-use crate::rows::{Tag, key_of, row_of};
-use crate::source::{Here, Source};
-use crate::whose::{Group, Kind, Whose};
+use crate::rows::{key_of, row_of};
+use crate::source::{Here, Said, Source};
+use crate::whose::{Group, Kind};
 use buck_record::{Described, Level, Slot};
+use std::alloc::Global;
 use std::fmt;
 
-/// A kind of file whose items stand in groups.
+/// A file of a form, of which it is said why it is refused.
 #[derive(Clone, Copy)]
-pub(crate) struct Form {
-    /// What its first item says.
-    pub(crate) name: &'static str,
+pub(crate) struct Refused<'a> {
+    pub(crate) alloc: Global,
+    pub(crate) source: Source<'a>,
     /// Its items, and those that stand in it too.
     pub(crate) rows: [&'static [Described]; 2],
+    /// What its groups are.
     pub(crate) kind: Kind,
 }
 
-/// An item of a file that has a row, and the group that it stands in.
+/// An item of a file, and what is said of its kind.
 #[derive(Clone, Copy)]
 pub(crate) struct Seen<'a> {
+    pub(crate) file: Refused<'a>,
     pub(crate) item: Item<'a>,
     pub(crate) row: &'static Described,
-    pub(crate) whose: Whose<'a>,
 }
 
-/// What is said first of an item: where it stands, its name, and whose it is.
+/// A place in an item of a file: where it stands, and the item's name and head, and whose it is, if it is one's.
 #[derive(Clone, Copy)]
-pub(crate) struct Opening<'a> {
-    pub(crate) here: Here<'a>,
-    pub(crate) row: &'static Described,
-    pub(crate) whose: Whose<'a>,
+pub(crate) struct Place<'a> {
+    alloc: Global,
+    here: Here<'a>,
+    name: &'a str,
+    key: Key,
+    whose: Option<Group<'a>>,
 }
 
-impl fmt::Display for Opening<'_> {
-    fn fmt<W: fmt::Write>(&self, f: &mut fmt::Formatter<W>) -> fmt::Result {
-        write!(f, "{}: {}{}:", self.here, Tag(self.row), self.whose)
-    }
-}
-
-impl<'a> Seen<'a> {
-    /// What is said first of it, where a byte is what is spoken of.
-    pub(crate) fn opening(&self, source: &Source<'a>, at: usize) -> Opening<'a> {
-        Opening {
-            here: source.here(at),
-            row: self.row,
-            whose: self.whose,
-        }
-    }
-}
-
-impl Form {
+impl<'a> Refused<'a> {
     /// The row of an item, if it has one.
     pub(crate) fn row(&self, item: &Item<'_>) -> Option<&'static Described> {
         self.row_of(item.key()?)
@@ -64,80 +51,105 @@ impl Form {
         }
     }
 
-    /// The first item that begins a group, or stands in one, with its row.
-    pub(crate) fn first_grouped<'a>(
-        &self,
-        source: &Source<'a>,
-    ) -> Option<(Item<'a>, &'static Described)> {
-        for item in source.items() {
+    /// Whether an item begins a group.
+    pub(crate) fn opens(&self, item: &Item<'_>) -> bool {
+        match self.row(item) {
+            Some(row) => row.level == Level::Opener,
+            None => false,
+        }
+    }
+
+    /// The first item that begins a group, or stands in one.
+    pub(crate) fn first_grouped(&self) -> Option<Seen<'a>> {
+        for item in self.source.items() {
             match self.row(&item) {
-                Some(row) if row.level != Level::Head => return Some((item, row)),
+                Some(row) if row.level != Level::Head => {
+                    return Some(Seen {
+                        file: *self,
+                        item,
+                        row,
+                    });
+                }
                 _ => {}
             }
         }
         None
     }
 
-    /// The group that stands open behind an item, where one stood open before it.
-    pub(crate) fn group_after<'a>(
-        &self,
-        open: Option<Group<'a>>,
-        item: Item<'a>,
-        row: &Described,
-    ) -> Option<Group<'a>> {
-        if row.level != Level::Opener {
-            return open;
+    /// The group that is begun last at a byte or before it, if one is.
+    fn group_at(&self, at: usize) -> Option<Group<'a>> {
+        let mut group: Option<Group<'a>> = None;
+        for opener in self.source.items() {
+            if at < opener.at {
+                break;
+            }
+            if self.opens(&opener) {
+                group = Some(Group {
+                    kind: self.kind,
+                    place: group.map_or(0, |before| before.place.saturating_add(1)),
+                    opener,
+                });
+            }
         }
-        let place = match open {
-            Some(group) => group.place.saturating_add(1),
-            None => 0,
-        };
-        Some(Group {
-            kind: self.kind,
-            place,
-            opener: item,
-        })
+        group
     }
 
-    /// Whose an item is, where this group stands open.
-    pub(crate) fn whose<'a>(&self, open: Option<Group<'a>>, row: &Described) -> Whose<'a> {
-        match open {
-            Some(group) if row.level != Level::Head => Whose::Of(group),
-            _ => Whose::Nobody,
+    /// The item of a slot that stands behind the one that begins a group, and before the next such one.
+    pub(crate) fn member(&self, opener: &Item<'_>, slot: Slot) -> Option<Item<'a>> {
+        for item in self.source.items_after(opener) {
+            if self.opens(&item) {
+                return None;
+            }
+            if item.is(slot) {
+                return Some(item);
+            }
         }
+        None
     }
 }
 
-/// Whether an item stands behind the one that begins a group, and before the next such one.
-pub(crate) fn member<'a>(
-    form: &Form,
-    source: &Source<'a>,
-    opener: &Item<'a>,
-    slot: Slot,
-) -> Option<Item<'a>> {
-    for item in source.items_after(opener) {
-        let Some(row) = form.row(&item) else {
-            continue;
+impl<'a> Seen<'a> {
+    /// The item of a slot in its group, if there is one.
+    pub(crate) fn sibling(&self, slot: Slot) -> Option<Item<'a>> {
+        let group = self.file.group_at(self.item.at)?;
+        self.file.member(&group.opener, slot)
+    }
+
+    /// A place in it, where a byte is what is spoken of.
+    pub(crate) fn at(&self, byte: usize) -> Place<'a> {
+        let whose = match self.row.level {
+            Level::Head => None,
+            _ => self.file.group_at(self.item.at),
         };
-        if row.level == Level::Opener {
-            return None;
-        }
-        if key_of(row).is(slot) {
-            return Some(item);
+        Place {
+            alloc: self.file.alloc,
+            here: self.file.source.here(byte),
+            name: self.row.name,
+            key: key_of(self.row),
+            whose,
         }
     }
-    None
+
+    /// Its place, where no byte of it is spoken of.
+    pub(crate) fn place(&self) -> Place<'a> {
+        self.at(self.item.at)
+    }
 }
 
-/// An item of the group that an item stands in.
-pub(crate) fn sibling<'a>(
-    form: &Form,
-    source: &Source<'a>,
-    seen: &Seen<'a>,
-    slot: Slot,
-) -> Option<Item<'a>> {
-    match seen.whose {
-        Whose::Of(group) => member(form, source, &group.opener, slot),
-        _ => None,
+impl Place<'_> {
+    /// Says what is wrong there, behind the place, the name of the item, and whose it is.
+    pub(crate) fn say<T: fmt::Display + Drop>(&self, words: T) -> Said {
+        let Key { number, kind } = self.key;
+        let name = self.name;
+        match self.whose {
+            Some(group) => self.here.say(
+                self.alloc,
+                format_args!("{name} ({number} {kind}) of {group}: {words}"),
+            ),
+            None => self.here.say(
+                self.alloc,
+                format_args!("{name} ({number} {kind}): {words}"),
+            ),
+        }
     }
 }

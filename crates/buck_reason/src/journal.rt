@@ -1,32 +1,25 @@
 //! Why a journal is refused.
-use crate::counts::Wanted;
-use crate::form::Seen;
-use crate::item::{Item, Key};
-use crate::numbers::{no_number, out_of_range, rising_text};
+use crate::form::{Refused, Seen};
+use crate::item::Key;
 use crate::placing::headless;
 use crate::rows::{Tag, key_of, row_of};
 use crate::shown::{Quoted, Several};
-use crate::source::Source;
-use crate::whose::Whose;
+use crate::source::{Said, Source};
+use crate::whose::Kind;
 use buck_book::MOST_POSTINGS;
 use buck_journal::slots::{CUT, DEMAND, SHEET, WORTH};
 use buck_journal::{ITEMS, JournalFault};
-use buck_record::{Described, Level, Order, Slot};
-use std::alloc::{AllocError, Global};
+use buck_record::{Described, Level, Slot};
+use std::alloc::Global;
 use std::fmt;
 
 /// The items of a posting behind its first, which has this head.
 fn members_of(key: Key) -> &'static [Described] {
-    let mut rest: &'static [Described] = &ITEMS;
-    for row in &ITEMS {
-        let [_, behind @ ..] = rest else {
-            break;
-        };
-        rest = behind;
-        if key_of(row) == key {
-            break;
-        }
-    }
+    let all: &'static [Described] = &ITEMS;
+    let Some(opener) = all.iter().position(|row| key_of(row) == key) else {
+        return &[];
+    };
+    let rest = &all[opener + 1..];
     let members = rest.iter().position(|row| row.level != Level::Member);
     &rest[..members.unwrap_or(rest.len())]
 }
@@ -43,32 +36,23 @@ struct Due {
 }
 
 impl Due {
-    /// What may stand behind the first item.
-    fn first() -> Due {
-        Due {
-            lacks: &[],
-            postings: 0,
-            in_sheets: true,
-        }
-    }
-
     /// What may stand behind an item.
     fn after(self, key: Key) -> Due {
         match self.lacks {
+            [_] => Due {
+                lacks: &[],
+                postings: self.postings.saturating_add(1),
+                ..self
+            },
             [_, rest @ ..] => Due {
                 lacks: rest,
-                postings: if rest.is_empty() {
-                    self.postings.saturating_add(1)
-                } else {
-                    self.postings
-                },
-                in_sheets: self.in_sheets,
+                ..self
             },
             [] if key.is(SHEET) => self,
             [] => Due {
                 lacks: members_of(key),
-                postings: self.postings,
                 in_sheets: false,
+                ..self
             },
         }
     }
@@ -120,45 +104,30 @@ impl fmt::Display for Inside<'_> {
     }
 }
 
-/// An item of a journal, and what might stand in its place.
-#[derive(Clone, Copy)]
-struct Found<'a> {
-    item: Option<Item<'a>>,
-    due: Due,
-}
-
-/// The item at a place of a journal, counted from 1, if there is one.
-fn found_at<'a>(source: &Source<'a>, place: usize) -> Found<'a> {
-    let mut due = Due::first();
-    let mut at = 1usize;
-    for item in source.items() {
-        if at == place {
-            return Found {
-                item: Some(item),
-                due,
-            };
+/// What may stand at a place of a journal, counted from 1.
+fn due_at(source: &Source<'_>, place: usize) -> Due {
+    let mut due = Due {
+        lacks: &[],
+        postings: 0,
+        in_sheets: true,
+    };
+    for item in source.items().take(place.saturating_sub(1)).skip(1) {
+        if let Some(key) = item.key() {
+            due = due.after(key);
         }
-        if at > 1 {
-            due = match item.key() {
-                Some(key) => due.after(key),
-                None => due,
-            };
-        }
-        at = at.saturating_add(1);
     }
-    Found { item: None, due }
+    due
 }
 
 /// Says that a file is no journal.
-fn no_journal(alloc: Global, source: &Source<'_>) -> Result<Option<String>, AllocError> {
-    if let Some(item) = source.items().next() {
-        return Ok(Some(format!(in alloc;
-            "{}: {}, 1 2 JRN~ wanted\n",
-            source.here(item.at),
-            Quoted(item.text)
-        )?));
+fn no_journal(alloc: Global, source: &Source<'_>) -> Said {
+    match source.items().next() {
+        Some(item) => source.here(item.at).say(
+            alloc,
+            format_args!("{}, 1 2 JRN~ wanted", Quoted(item.text)),
+        ),
+        None => source.whole().say(alloc, "empty, 1 2 JRN~ wanted"),
     }
-    Ok(Some(format!(in alloc; "{}: empty, 1 2 JRN~ wanted\n", source.whole())?))
 }
 
 /// Where the last byte stands that says something.
@@ -170,120 +139,82 @@ fn end_of(source: &Source<'_>) -> usize {
 }
 
 /// Says that a journal ends too soon, or that another item must stand at a place.
-fn misplaced(
-    alloc: Global,
-    source: &Source<'_>,
-    place: usize,
-) -> Result<Option<String>, AllocError> {
-    let found = found_at(source, place);
-    let due = &found.due;
-    let Some(item) = found.item else {
+fn misplaced(alloc: Global, source: &Source<'_>, place: usize) -> Said {
+    let due = due_at(source, place);
+    let Some(item) = source.items().nth(place.saturating_sub(1)) else {
         let posting = due.postings;
-        return Ok(Some(format!(in alloc;
-            "{}: ends in the middle of posting {posting}, {due}\n",
-            source.here(end_of(source))
-        )?));
+        return source.here(end_of(source)).say(
+            alloc,
+            format_args!("ends in the middle of posting {posting}, {due}"),
+        );
     };
-    let Some(key) = item.key() else {
+    let Some(Key { number, kind }) = item.key() else {
         return Ok(None);
     };
-    let number = key.number;
-    let kind = key.kind;
-    Ok(Some(format!(in alloc;
-        "{}: item {place}, {number} {kind}, {}: {due}\n",
-        source.here(item.at),
-        Inside(due)
-    )?))
+    source.here(item.at).say(
+        alloc,
+        format_args!("item {place}, {number} {kind}, {}: {due}", Inside(&due)),
+    )
 }
 
-/// The item at a place of a journal, where it stands in its place.
-fn seen_at<'a>(source: &Source<'a>, place: usize) -> Option<Seen<'a>> {
-    let found = found_at(source, place);
-    let item = found.item?;
-    let row = row_of(&ITEMS, item.key()?)?;
-    let whose = if row.level == Level::Head {
-        Whose::Nobody
-    } else {
-        Whose::Posting(found.due.postings)
-    };
-    Some(Seen { item, row, whose })
-}
-
-/// Says that a word is no number, or all of a worth.
-fn unnumbered(
-    alloc: Global,
-    source: &Source<'_>,
-    seen: &Seen<'_>,
-) -> Result<Option<String>, AllocError> {
-    if !seen.item.is(WORTH) {
-        return no_number(alloc, source, seen);
+impl<'a> Refused<'a> {
+    /// The item at a place, counted from 1, if it has a row.
+    fn at(&self, place: usize) -> Option<Seen<'a>> {
+        let item = self.source.items().nth(place.saturating_sub(1))?;
+        let row = self.row(&item)?;
+        Some(Seen {
+            file: *self,
+            item,
+            row,
+        })
     }
-    Ok(Some(format!(in alloc;
-        "{} {}, one number wanted\n",
-        seen.opening(source, seen.item.at),
-        Quoted(seen.item.rest())
-    )?))
 }
 
-/// Says that an item has too few or too many numbers, or is one posting too many.
-fn miscounted(
-    alloc: Global,
-    source: &Source<'_>,
-    seen: &Seen<'_>,
-) -> Result<Option<String>, AllocError> {
-    let opening = seen.opening(source, seen.item.at);
-    let Seen { item, row, .. } = *seen;
-    let count = item.count();
-    if row.level == Level::Opener && count == row.slots.len() {
-        return Ok(Some(format!(in alloc; "{opening} at most {MOST_POSTINGS} postings wanted\n")?));
+impl Seen<'_> {
+    /// Says that a word is no number, or all of a worth.
+    fn unnumbered(&self) -> Said {
+        if !self.item.is(WORTH) {
+            return self.no_number();
+        }
+        let rest = Quoted(self.item.rest());
+        self.place().say(format_args!("{rest}, one number wanted"))
     }
-    let wanted = Wanted {
-        row,
-        rows: 0,
-        columns: 0,
-    };
-    Ok(Some(format!(in alloc; "{opening} {}, {wanted}\n", Several(count, "number"))?))
-}
 
-/// Says that a number is out of its range, or that a zone doesn't start behind the one before.
-fn outside(
-    alloc: Global,
-    source: &Source<'_>,
-    seen: &Seen<'_>,
-) -> Result<Option<String>, AllocError> {
-    let said = out_of_range(alloc, source, seen)?;
-    if said.is_some() {
-        return Ok(said);
+    /// Says that it has too few or too many numbers, or is one posting too many.
+    fn surplus(&self) -> Said {
+        if self.row.level == Level::Opener && self.item.count() == self.row.slots.len() {
+            let words = format_args!("at most {MOST_POSTINGS} postings wanted");
+            return self.place().say(words);
+        }
+        self.miscounted()
     }
-    match seen.row.order {
-        Order::Rising(step) => rising_text(alloc, source, seen, step),
-        _ => Ok(None),
+
+    /// Says that a number is out of its range, or that a zone doesn't start behind the one before.
+    fn outside(&self) -> Said {
+        let said = self.out_of_range()?;
+        if said.is_some() {
+            return Ok(said);
+        }
+        self.out_of_order()
     }
 }
 
 /// Why a journal is refused, in lines of text, given its fault. None where nothing in the journal is as the fault says.
-/// Refused where a growth was.
-pub fn journal_reason(
-    alloc: Global,
-    source: &Source<'_>,
-    fault: &JournalFault,
-) -> Result<Option<String>, AllocError> {
+/// Refused as `Memory` alone.
+pub fn journal_reason(alloc: Global, source: &Source<'_>, fault: &JournalFault) -> Said {
+    let file = Refused {
+        alloc,
+        source: *source,
+        rows: [&ITEMS, &[]],
+        kind: Kind::Posting,
+    };
     match *fault {
         JournalFault::Head { item } => headless(alloc, source, item),
         JournalFault::NotJournal => no_journal(alloc, source),
         JournalFault::Shape { item } => misplaced(alloc, source, item),
-        JournalFault::Digits { item } => match seen_at(source, item) {
-            Some(seen) => unnumbered(alloc, source, &seen),
-            None => Ok(None),
-        },
-        JournalFault::Count { item } => match seen_at(source, item) {
-            Some(seen) => miscounted(alloc, source, &seen),
-            None => Ok(None),
-        },
-        JournalFault::Range { item } => match seen_at(source, item) {
-            Some(seen) => outside(alloc, source, &seen),
-            None => Ok(None),
-        },
+        JournalFault::Digits { item } => file.at(item).map_or(Ok(None), |seen| seen.unnumbered()),
+        JournalFault::Count { item } => file.at(item).map_or(Ok(None), |seen| seen.surplus()),
+        JournalFault::Range { item } => file.at(item).map_or(Ok(None), |seen| seen.outside()),
         JournalFault::Memory => Ok(None),
     }
 }

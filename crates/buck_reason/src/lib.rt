@@ -26,4 +26,4 @@ pub use journal::journal_reason;
 pub use requests::request_reason;
 pub use rows::{REQUEST, key_of};
 pub use shown::{Quoted, Several, Shown};
-pub use source::{Here, Source};
+pub use source::{Here, Said, Source};

@@ -1,21 +1,19 @@
 //! Why a request is refused.
 use crate::files::stems_reason;
-use crate::form::Form;
+use crate::form::Refused;
 use crate::item::Key;
 use crate::rows::{HARVESTER, NEW_TARGETS, REQUEST, Tag};
-use crate::source::Source;
+use crate::source::{Said, Source};
 use crate::whose::Kind;
 use buck_record::Level;
 use buck_stem::slots::STEM;
 use buck_stem::{ITEMS, StmFault};
-use std::alloc::{AllocError, Global};
+use std::alloc::Global;
 
 /// Whether an item of a stem stands before the stem's number.
-fn is_unopened(form: &Form, source: &Source<'_>) -> bool {
-    match form.first_grouped(source) {
-        Some((_, row)) => row.level == Level::Member,
-        None => false,
-    }
+fn is_unopened(file: &Refused<'_>) -> bool {
+    file.first_grouped()
+        .is_some_and(|seen| seen.row.level == Level::Member)
 }
 
 /// Whether it is refused since it asks for two things.
@@ -24,24 +22,21 @@ fn is_second(source: &Source<'_>, key: Key) -> bool {
 }
 
 /// Why a request is refused, in lines of text, given its fault. None where nothing in it is as the fault says. Refused
-/// where a growth was.
-pub fn request_reason(
-    alloc: Global,
-    source: &Source<'_>,
-    fault: &StmFault,
-) -> Result<Option<String>, AllocError> {
-    let form = Form {
-        name: "",
+/// as `Memory` alone.
+pub fn request_reason(alloc: Global, source: &Source<'_>, fault: &StmFault) -> Said {
+    let file = Refused {
+        alloc,
+        source: *source,
         rows: [&REQUEST, &ITEMS],
         kind: Kind::Request,
     };
     let (key, words) = match *fault {
         StmFault::Missing { number, kind }
-            if Key { number, kind }.is(STEM) && !is_unopened(&form, source) => {
-            return Ok(Some(format!(in alloc;
-                "{}: a stem (951 1 and more) or new targets (982 2) wanted\n",
-                source.whole()
-            )?));
+            if Key { number, kind }.is(STEM) && !is_unopened(&file) => {
+            return source.whole().say(
+                alloc,
+                "a stem (951 1 and more) or new targets (982 2) wanted",
+            );
         }
         StmFault::Twice { number, kind } if is_second(source, Key { number, kind }) => {
             (
@@ -55,10 +50,12 @@ pub fn request_reason(
                 "stands after other items, before them wanted",
             )
         }
-        _ => return stems_reason(alloc, &form, source, fault),
+        _ => return stems_reason(&file, fault),
     };
-    let Some(row) = form.row_of(key) else {
-        return Ok(None);
-    };
-    Ok(Some(format!(in alloc; "{}: {}: {words}\n", source.whole(), Tag(row))?))
+    match file.row_of(key) {
+        Some(row) => source
+            .whole()
+            .say(alloc, format_args!("{}: {words}", Tag(row))),
+        None => Ok(None),
+    }
 }

@@ -1,7 +1,12 @@
 //! A file, and places in it.
 use crate::item::{Item, Items};
 use crate::shown::Shown;
+use buck_record::Memory;
+use std::alloc::Global;
 use std::fmt;
+
+/// Why a file is refused, in lines of text; none where nothing in it is as the fault says.
+pub type Said = Result<Option<String>, Memory>;
 
 /// A file that was read, or one line of it: its name as it was given, and its bytes.
 #[derive(Clone, Copy)]
@@ -27,6 +32,13 @@ impl fmt::Display for Here<'_> {
             Some(line) => write!(f, "{name}, line {line}"),
             None => write!(f, "{name}"),
         }
+    }
+}
+
+impl Here<'_> {
+    /// These words of the place, as a line of text.
+    pub fn say<T: fmt::Display + Drop>(&self, alloc: Global, words: T) -> Said {
+        Ok(Some(format!(in alloc; "{self}: {words}\n")?))
     }
 }
 
@@ -75,13 +87,8 @@ impl<'a> Source<'a> {
             Some((before, _)) => before,
             None => self.bytes,
         };
-        let mut line = 1usize;
-        for byte in before {
-            if *byte == b'\n' {
-                line = line.saturating_add(1);
-            }
-        }
-        line
+        let ended = before.iter().filter(|byte| **byte == b'\n').count();
+        ended.saturating_add(1)
     }
 
     /// The line of a byte, as it is named.

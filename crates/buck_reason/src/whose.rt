@@ -13,9 +13,10 @@ pub enum Kind {
     Stem,
     /// The only stem of a request.
     Request,
+    Posting,
 }
 
-/// An assortment or a stem of a file.
+/// An assortment, a stem or a posting of a file: `assortment 1 "saw"`, `stem 412 (place 3)`, `posting 4`.
 #[derive(Clone, Copy)]
 pub struct Group<'a> {
     pub kind: Kind,
@@ -33,31 +34,18 @@ fn first_bytes(number: &[u8]) -> &[u8] {
     }
 }
 
-/// Whose an item is, where it is one's: ` of assortment 1 "saw"`, ` of stem 412 (place 3)`, ` of posting 4`.
-#[derive(Clone, Copy)]
-pub enum Whose<'a> {
-    Nobody,
-    Of(Group<'a>),
-    /// Of the posting at this index, from 0.
-    Posting(usize),
-}
-
-impl fmt::Display for Whose<'_> {
+impl fmt::Display for Group<'_> {
     fn fmt<W: fmt::Write>(&self, f: &mut fmt::Formatter<W>) -> fmt::Result {
-        let group = match *self {
-            Whose::Nobody => return Ok(()),
-            Whose::Posting(posting) => return write!(f, " of posting {posting}"),
-            Whose::Of(group) => group,
-        };
-        let place = group.place;
-        let rest = group.opener.rest();
-        match group.kind {
-            Kind::Assortment => write!(f, " of assortment {place} {}", Quoted(rest)),
+        let place = self.place;
+        let rest = self.opener.rest();
+        match self.kind {
+            Kind::Assortment => write!(f, "assortment {place} {}", Quoted(rest)),
             Kind::Stem => {
                 let place = place.saturating_add(1);
-                write!(f, " of stem {} (place {place})", Shown(first_bytes(rest)))
+                write!(f, "stem {} (place {place})", Shown(first_bytes(rest)))
             }
-            Kind::Request => write!(f, " of stem {}", Shown(first_bytes(rest))),
+            Kind::Request => write!(f, "stem {}", Shown(first_bytes(rest))),
+            Kind::Posting => write!(f, "posting {place}"),
         }
     }
 }
