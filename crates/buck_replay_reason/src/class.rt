@@ -16,11 +16,9 @@ pub(crate) struct ClassName<'a> {
 impl<'a> ClassName<'a> {
     /// The class at a place among all, if there is one.
     pub(crate) fn of(instruction: &'a Instruction, class: usize) -> Option<ClassName<'a>> {
-        let mut first = 0usize;
-        let mut place = 0usize;
-        for assortment in instruction.assortments() {
+        let mut at = class;
+        for (place, assortment) in instruction.assortments().iter().enumerate() {
             let classes = assortment.classes();
-            let at = class.saturating_sub(first);
             if at < classes {
                 return Some(ClassName {
                     place,
@@ -28,8 +26,7 @@ impl<'a> ClassName<'a> {
                     at,
                 });
             }
-            first = first.saturating_add(classes);
-            place = place.saturating_add(1);
+            at -= classes;
         }
         None
     }

@@ -1,22 +1,9 @@
 //! Logs that can't be cut from their stem.
 use buck_apt::{Assortment, Instruction};
+use buck_own::{Reason, reason_of};
 use buck_stem::Stem;
-use buck_value::{Log, Sheet, class_of};
+use buck_value::Log;
 use std::fmt;
-
-/// Why a log can't stand where it does.
-#[derive(Clone, Copy)]
-enum Why<'a> {
-    Assortment { below: usize },
-    Species { found: u8, wanted: u8 },
-    Module(u32),
-    Lengths(&'a [u32]),
-    End { found: u32, most: u32 },
-    Grade { found: u8, wanted: &'a [u8] },
-    Top { found: u32, least: u32, most: u32 },
-    Unbought { top: u32 },
-    Overlap { end: u32 },
-}
 
 /// Numbers with these words between.
 #[derive(Clone, Copy)]
@@ -34,178 +21,143 @@ impl<T: fmt::Display> fmt::Display for Apart<'_, T> {
     }
 }
 
-impl fmt::Display for Why<'_> {
-    fn fmt<W: fmt::Write>(&self, f: &mut fmt::Formatter<W>) -> fmt::Result {
-        match *self {
-            Why::Assortment { below } => write!(f, "an assortment below {below} wanted"),
-            Why::Species { found, wanted } => write!(f, "species {found}, {wanted} wanted"),
-            Why::Module(module) => write!(f, "a start that is a multiple of {module} wanted"),
-            Why::Lengths(lengths) => write!(f, "one of the lengths {} wanted", Apart(lengths, " ")),
-            Why::End { found, most } => write!(f, "ends at {found}, at most {most} wanted"),
-            Why::Grade { found, wanted } => write!(
-                f,
-                "grade {found}, {} wanted",
-                Apart(wanted, " or ")
-            ),
-            Why::Top { found, least, most } => {
-                write!(f, "{found} thick at its top, {least} to {most} wanted")
-            }
-            Why::Unbought { top } => {
-                write!(f, "{top} thick at its top, not bought (base price 0)")
-            }
-            Why::Overlap { end } => {
-                write!(f, "a start from {end} on wanted, where the log before ends")
-            }
-        }
-    }
-}
-
 /// A log that can't stand where it does, and why.
 #[derive(Clone, Copy)]
 pub(crate) struct WrongLog<'a> {
+    instruction: &'a Instruction,
+    stem: &'a Stem,
     /// Its place in the cutting, counted from 1.
     place: usize,
     log: Log,
-    why: Why<'a>,
-}
-
-impl fmt::Display for WrongLog<'_> {
-    fn fmt<W: fmt::Write>(&self, f: &mut fmt::Formatter<W>) -> fmt::Result {
-        let place = self.place;
-        let start = self.log.start;
-        let length = self.log.length;
-        let assortment = self.log.assortment;
-        write!(
-            f,
-            "log {place} (start {start}, length {length}, assortment {assortment}): {}",
-            self.why
-        )
-    }
+    /// Where the log before it ends.
+    from: u32,
+    reason: Reason,
 }
 
 /// The greatest grade.
 const GRADES: u8 = 8;
 
-/// The least grade of a log that its assortment doesn't take.
-fn wrong_grade(assortment: &Assortment, stem: &Stem, log: &Log) -> Option<u8> {
-    let mask = stem.grades_between(log.start, log.start.saturating_add(log.length));
-    let mut rest = mask;
-    for grade in 1..GRADES + 1 {
-        if rest % 2 == 1 && !assortment.grades().contains(&grade) {
-            return Some(grade);
+impl WrongLog<'_> {
+    /// Where its length ends.
+    fn top(&self) -> u32 {
+        self.log.start.saturating_add(self.log.length)
+    }
+
+    /// How thick it is at its top; 0 where it goes beyond its stem.
+    fn diameter(&self) -> u32 {
+        let top = self.top();
+        if top <= self.stem.length() {
+            self.stem.diameter_at(top)
+        } else {
+            0
         }
-        rest /= 2;
     }
-    None
-}
 
-/// Why a log isn't allowed by its length, grades and top.
-fn why_measured<'a>(assortment: &'a Assortment, stem: &Stem, log: &Log) -> Option<Why<'a>> {
-    let most = stem.length();
-    let top_at = log.start.saturating_add(log.length);
-    let found = top_at.saturating_add(assortment.trim());
-    if found > most || top_at > most {
-        return Some(Why::End { found, most });
-    }
-    if let Some(found) = wrong_grade(assortment, stem, log) {
-        return Some(Why::Grade {
-            found,
-            wanted: assortment.grades(),
-        });
-    }
-    let top = stem.diameter_at(top_at);
-    let least = assortment.diameters().first().copied().unwrap_or(0);
-    if top < least || assortment.upper() <= top {
-        return Some(Why::Top {
-            found: top,
-            least,
-            most: assortment.upper().saturating_sub(1),
-        });
-    }
-    None
-}
-
-/// Why a log of an assortment isn't allowed by itself.
-fn why_alone<'a>(
-    instruction: &Instruction,
-    assortment: &'a Assortment,
-    stem: &Stem,
-    log: &Log,
-) -> Option<Why<'a>> {
-    if assortment.species() != stem.species() {
-        return Some(Why::Species {
-            found: stem.species(),
-            wanted: assortment.species(),
-        });
-    }
-    if log.start % instruction.module() != 0 {
-        return Some(Why::Module(instruction.module()));
-    }
-    if !assortment.lengths().contains(&log.length) {
-        return Some(Why::Lengths(assortment.lengths()));
-    }
-    why_measured(assortment, stem, log)
-}
-
-/// How thick a log is at its top; 0 where it goes beyond its stem.
-fn top_of(stem: &Stem, log: &Log) -> u32 {
-    let top_at = log.start.saturating_add(log.length);
-    if top_at <= stem.length() {
-        stem.diameter_at(top_at)
-    } else {
+    /// The least grade of it that its assortment doesn't take; 0 where it takes all.
+    fn grade(&self, assortment: &Assortment) -> u8 {
+        let mut rest = self.stem.grades_between(self.log.start, self.top());
+        for grade in 1..GRADES + 1 {
+            if rest % 2 == 1 && !assortment.grades().contains(&grade) {
+                return grade;
+            }
+            rest /= 2;
+        }
         0
     }
+
+    /// Writes what is wanted of a log of this assortment.
+    fn write_why<W: fmt::Write>(
+        &self,
+        f: &mut fmt::Formatter<W>,
+        assortment: &Assortment,
+    ) -> fmt::Result {
+        let from = self.from;
+        let module = self.instruction.module();
+        let top = self.diameter();
+        match self.reason {
+            Reason::Order => write!(
+                f,
+                "a start from {from} on wanted, where the log before ends"
+            ),
+            Reason::Assortment => Ok(()),
+            Reason::Species => {
+                let found = self.stem.species();
+                write!(f, "species {found}, {} wanted", assortment.species())
+            }
+            Reason::Start => write!(f, "a start that is a multiple of {module} wanted"),
+            Reason::Length => {
+                let lengths = Apart(assortment.lengths(), " ");
+                write!(f, "one of the lengths {lengths} wanted")
+            }
+            Reason::End => {
+                let end = self.top().saturating_add(assortment.trim());
+                write!(f, "ends at {end}, at most {} wanted", self.stem.length())
+            }
+            Reason::Grade => {
+                let wanted = Apart(assortment.grades(), " or ");
+                write!(f, "grade {}, {wanted} wanted", self.grade(assortment))
+            }
+            Reason::Diameter => {
+                let least = assortment.diameters().first().copied().unwrap_or(0);
+                let most = assortment.upper().saturating_sub(1);
+                write!(f, "{top} thick at its top, {least} to {most} wanted")
+            }
+            Reason::Price => write!(f, "{top} thick at its top, not bought (base price 0)"),
+        }
+    }
 }
 
-/// Why a log can't stand behind one that ends at a place.
-fn why_wrong<'a>(sheet: &'a Sheet, stem: &Stem, log: &Log, end: u32) -> Option<Why<'a>> {
-    let assortments = sheet.instruction().assortments();
-    let Some(assortment) = assortments.get(usize::from(log.assortment)) else {
-        return Some(Why::Assortment {
-            below: assortments.len(),
-        });
-    };
-    let why = why_alone(sheet.instruction(), assortment, stem, log);
-    if why.is_some() {
-        return why;
+impl fmt::Display for WrongLog<'_> {
+    fn fmt<W: fmt::Write>(&self, f: &mut fmt::Formatter<W>) -> fmt::Result {
+        let place = self.place;
+        let Log {
+            start,
+            length,
+            assortment,
+        } = self.log;
+        write!(
+            f,
+            "log {place} (start {start}, length {length}, assortment {assortment}): "
+        )?;
+        let all = self.instruction.assortments();
+        match all.get(usize::from(assortment)) {
+            Some(found) => self.write_why(f, found),
+            None => write!(f, "an assortment below {} wanted", all.len()),
+        }
     }
-    if class_of(sheet, stem, log.start, log.assortment, log.length).is_none() {
-        return Some(Why::Unbought {
-            top: top_of(stem, log),
-        });
-    }
-    if log.start < end {
-        return Some(Why::Overlap { end });
-    }
-    None
 }
 
 /// Where a log ends, with its trim.
-fn end_of(sheet: &Sheet, log: &Log) -> u32 {
-    let trim = match sheet
-        .instruction()
-        .assortments()
-        .get(usize::from(log.assortment))
-    {
-        Some(assortment) => assortment.trim(),
-        None => 0,
-    };
+fn end_of(instruction: &Instruction, log: &Log) -> u32 {
+    let assortment = instruction.assortments().get(usize::from(log.assortment));
+    let trim = assortment.map_or(0, |found| found.trim());
     log.start.saturating_add(log.length).saturating_add(trim)
 }
 
-/// The first of some logs that can't stand where it does.
-pub(crate) fn wrong_log<'a>(sheet: &'a Sheet, stem: &Stem, logs: &[Log]) -> Option<WrongLog<'a>> {
-    let mut end = 0;
+/// The first of some logs that can't stand where it does. Of its reasons the last is that it starts too soon.
+pub(crate) fn wrong_log<'a>(
+    instruction: &'a Instruction,
+    stem: &'a Stem,
+    logs: &[Log],
+) -> Option<WrongLog<'a>> {
+    let mut from = 0;
     let mut place = 1usize;
     for log in logs {
-        if let Some(why) = why_wrong(sheet, stem, log, end) {
+        let reason = match reason_of(instruction, stem, 0, log) {
+            None if log.start < from => Some(Reason::Order),
+            reason => reason,
+        };
+        if let Some(reason) = reason {
             return Some(WrongLog {
+                instruction,
+                stem,
                 place,
                 log: *log,
-                why,
+                from,
+                reason,
             });
         }
-        end = end_of(sheet, log);
+        from = end_of(instruction, log);
         place = place.saturating_add(1);
     }
     None

@@ -1,6 +1,8 @@
 //! Postings, and where they stand in their file.
-use buck_book::Posting;
-use buck_reason::Source;
+use buck_book::{Entry, Posting};
+use buck_journal::Journal;
+use buck_reason::{Said, Source};
+use std::alloc::Global;
 use std::fmt;
 
 /// A posting by its place and whose it is.
@@ -11,48 +13,43 @@ pub(crate) struct Who<'a> {
     pub(crate) posting: &'a Posting,
 }
 
+impl<'a> Who<'a> {
+    /// The posting at a place of a journal, if there is one.
+    pub(crate) fn of(journal: &'a Journal, at: usize) -> Option<Who<'a>> {
+        let posting = journal.entries.get(at)?;
+        Some(Who { at, posting })
+    }
+
+    /// The cut that it is, if it is one.
+    pub(crate) fn cut(&self) -> Option<&'a Entry> {
+        match self.posting {
+            Posting::Cut(entry) => Some(entry),
+            Posting::Demand(_) => None,
+        }
+    }
+
+    /// Says words of a part of it, whose items are counted from 0, behind where that stands, and whose it is.
+    pub(crate) fn say<T: fmt::Display + Drop>(
+        &self,
+        alloc: Global,
+        source: &Source<'_>,
+        part: usize,
+        words: T,
+    ) -> Said {
+        let item = source.posting_item(self.at, part);
+        let here = source.here(item.map_or(0, |item| item.at));
+        here.say(alloc, format_args!("{self}: {words}"))
+    }
+}
+
 impl fmt::Display for Who<'_> {
     fn fmt<W: fmt::Write>(&self, f: &mut fmt::Formatter<W>) -> fmt::Result {
         let at = self.at;
-        match self.posting {
-            Posting::Cut(entry) => {
-                let harvester = entry.harvester;
-                write!(
-                    f,
-                    "posting {at} (harvester {harvester}, stem {})",
-                    entry.stem.number()
-                )
-            }
-            Posting::Demand(demand) => {
-                let harvester = demand.harvester;
-                write!(f, "posting {at} (harvester {harvester}, new targets)")
-            }
+        let harvester = self.posting.harvester();
+        write!(f, "posting {at} (harvester {harvester}, ")?;
+        match self.cut() {
+            Some(entry) => write!(f, "stem {})", entry.stem.number()),
+            None => write!(f, "new targets)"),
         }
-    }
-}
-
-/// What is said first of a part of a posting, whose items are counted from 0: where it stands, and whose it is.
-#[derive(Clone, Copy)]
-pub(crate) struct Opening<'s, 'w> {
-    pub(crate) source: Source<'s>,
-    pub(crate) who: Who<'w>,
-    pub(crate) part: usize,
-}
-
-impl fmt::Display for Opening<'_, '_> {
-    fn fmt<W: fmt::Write>(&self, f: &mut fmt::Formatter<W>) -> fmt::Result {
-        let at = match self.source.posting_item(self.who.at, self.part) {
-            Some(item) => item.at,
-            None => 0,
-        };
-        write!(f, "{}: {}:", self.source.here(at), self.who)
-    }
-}
-
-/// The place in a file of a price of a version.
-pub(crate) fn price_at(source: &Source<'_>, version: u32, class: usize) -> usize {
-    match source.sheet_item(version) {
-        Some(item) => item.word(class.saturating_add(1)).at,
-        None => 0,
     }
 }

@@ -2,13 +2,10 @@
 ghost use Rattle.buck_rule.specs.Standing.{IsInRange};
 
 use crate::class::ClassName;
-use crate::posting::price_at;
 use crate::replay::Unlawful;
 use buck_apt::Instruction;
 use buck_book::Walk;
-use buck_journal::Journal;
-use buck_reason::{Several, Source};
-use buck_record::Memory;
+use buck_reason::{Said, Several, Source};
 use buck_rule::{Standing, step};
 use std::alloc::Global;
 use std::cmp::Ordering;
@@ -47,8 +44,38 @@ fn allowed_prices(standing: &Standing) -> Allowed
 }
 
 /// The price of a class in a version of a journal.
-fn price_of(journal: &Journal, version: u32, class: usize) -> Option<u32> {
-    journal.sheets.get(version as usize)?.get(class).copied()
+#[derive(Clone, Copy)]
+struct Price {
+    version: u32,
+    /// The place of the class among all.
+    class: usize,
+    price: u32,
+}
+
+impl Price {
+    /// Says which price is wanted in its place, where that stands.
+    fn say<T: fmt::Display + Drop>(
+        &self,
+        alloc: Global,
+        source: &Source<'_>,
+        instruction: &Instruction,
+        wanted: T,
+    ) -> Said {
+        let Price {
+            version,
+            class,
+            price,
+        } = *self;
+        let Some(name) = ClassName::of(instruction, class) else {
+            return Ok(None);
+        };
+        let item = source.sheet_item(version);
+        let at = item.map_or(0, |item| item.word(class.saturating_add(1)).at);
+        source.here(at).say(
+            alloc,
+            format_args!("price of version {version}, class {class} ({name}): {price}, {wanted}"),
+        )
+    }
 }
 
 /// Says that a price of the version in force may not be what it is, at the place where that came into force.
@@ -56,61 +83,62 @@ pub(crate) fn price_reason(
     alloc: Global,
     unlawful: &Unlawful<'_>,
     walk: &Walk<'_>,
-    place: usize,
-) -> Result<Option<String>, Memory> {
+    class: usize,
+) -> Said {
     let instruction = walk.instruction();
     let version = walk.version();
-    let Some(class) = ClassName::of(instruction, place) else {
+    let journal = unlawful.journal;
+    let prices = journal.sheets.get(version as usize);
+    let Some(price) = prices.and_then(|prices| prices.get(class).copied()) else {
         return Ok(None);
     };
-    let Some(price) = price_of(unlawful.journal, version, place) else {
-        return Ok(None);
-    };
-    if place >= instruction.classes() {
+    if class >= instruction.classes() {
         return Ok(None);
     }
-    let allowed = allowed_prices(&walk.standing(place));
-    let source = &unlawful.source;
-    Ok(Some(format!(in alloc;
-        "{}: price of version {version}, class {place} ({class}): {price}, {allowed} wanted\n",
-        source.here(price_at(source, version, place))
-    )?))
+    let allowed = allowed_prices(&walk.standing(class));
+    let price = Price {
+        version,
+        class,
+        price,
+    };
+    price.say(
+        alloc,
+        &unlawful.source,
+        instruction,
+        format_args!("{allowed} wanted"),
+    )
 }
 
 /// Says that the prices of a version are missing, are not one for each class, or are too many.
-pub(crate) fn sheet_reason(
-    alloc: Global,
-    unlawful: &Unlawful<'_>,
-    version: u32,
-) -> Result<Option<String>, Memory> {
-    let Unlawful {
-        source,
-        instruction,
-        journal,
-    } = *unlawful;
-    let classes = instruction.classes();
+pub(crate) fn sheet_reason(alloc: Global, unlawful: &Unlawful<'_>, version: u32) -> Said {
+    let source = &unlawful.source;
+    let journal = unlawful.journal;
+    let classes = unlawful.instruction.classes();
     let Some(item) = source.sheet_item(version) else {
-        return Ok(Some(format!(in alloc;
-            "{}: prices (971 1) of version {version}: not there, {} wanted\n",
-            source.whole(),
-            Several(classes, "number")
-        )?));
+        let numbers = Several(classes, "number");
+        return source.whole().say(
+            alloc,
+            format_args!("prices (971 1) of version {version}: not there, {numbers} wanted"),
+        );
     };
     let here = source.here(item.at);
-    let count = match journal.sheets.get(version as usize) {
-        Some(prices) => prices.len(),
-        None => classes,
-    };
-    if count != classes {
-        return Ok(Some(format!(in alloc;
-            "{here}: prices (971 1) of version {version}: {}, {classes} wanted, one for each class\n",
-            Several(count, "number")
-        )?));
+    match journal.sheets.get(version as usize) {
+        Some(prices) if prices.len() != classes => {
+            let numbers = Several(prices.len(), "number");
+            here.say(
+                alloc,
+                format_args!(
+                    "prices (971 1) of version {version}: {numbers}, {classes} wanted, one for each class"
+                ),
+            )
+        }
+        _ => here.say(
+            alloc,
+            format_args!(
+                "prices (971 1) of version {version}: one list too many, {version} wanted"
+            ),
+        ),
     }
-    let many = version;
-    Ok(Some(format!(in alloc;
-        "{here}: prices (971 1) of version {version}: one list too many, {many} wanted\n"
-    )?))
 }
 
 /// A price of a journal that isn't what a rule gives.
@@ -133,18 +161,22 @@ pub fn rule_reason(
     instruction: &Instruction,
     rule: &str,
     mispriced: &Mispriced,
-) -> Result<Option<String>, Memory> {
+) -> Said {
     let Mispriced {
         version,
-        class: place,
+        class,
         price,
         wanted,
     } = *mispriced;
-    let Some(class) = ClassName::of(instruction, place) else {
-        return Ok(None);
+    let price = Price {
+        version,
+        class,
+        price,
     };
-    Ok(Some(format!(in alloc;
-        "{}: price of version {version}, class {place} ({class}): {price}, {wanted} wanted by the rule {rule}\n",
-        source.here(price_at(source, version, place))
-    )?))
+    price.say(
+        alloc,
+        source,
+        instruction,
+        format_args!("{wanted} wanted by the rule {rule}"),
+    )
 }

@@ -1,13 +1,13 @@
 //! Why a journal isn't lawful.
 use crate::logs::wrong_log;
-use crate::posting::{Opening, Who};
+use crate::posting::Who;
 use crate::prices::{price_reason, sheet_reason};
 use crate::targets::WrongTargets;
 use buck_apt::Instruction;
 use buck_book::{Entry, MOST_POSTINGS, Posting, Walk};
 use buck_dp::{best, worth_if_admissible};
 use buck_journal::{Journal, ReplayFault, replay_in_order};
-use buck_reason::{Quoted, Source};
+use buck_reason::{Quoted, Said, Source};
 use buck_record::Memory;
 use buck_value::Sheet;
 use std::alloc::Global;
@@ -34,29 +34,10 @@ const LOGS: usize = 4;
 const WORTH: usize = 5;
 
 impl<'a> Unlawful<'a> {
-    /// The posting at a place, by its name.
-    fn who(&self, at: usize) -> Option<Who<'a>> {
-        let journal = self.journal;
-        let posting = journal.entries.get(at)?;
-        Some(Who { at, posting })
-    }
-
     /// The cut at a place, by its name.
     fn cut(&self, at: usize) -> Option<(Who<'a>, &'a Entry)> {
-        let who = self.who(at)?;
-        match who.posting {
-            Posting::Cut(entry) => Some((who, entry)),
-            Posting::Demand(_) => None,
-        }
-    }
-
-    /// What is said first of a part of a posting.
-    fn opening<'w>(&self, who: &Who<'w>, part: usize) -> Opening<'a, 'w> {
-        Opening {
-            source: self.source,
-            who: *who,
-            part,
-        }
+        let who = Who::of(self.journal, at)?;
+        Some((who, who.cut()?))
     }
 
     /// The sheet of a version, if it is there.
@@ -68,167 +49,127 @@ impl<'a> Unlawful<'a> {
         let prices = Vec::from_slice(alloc, prices.as_slice())?;
         Ok(Sheet::with_prices(self.instruction.clone()?, version, prices).ok())
     }
-}
 
-/// Says that a posting doesn't have its harvester's next number.
-fn misnumbered(
-    alloc: Global,
-    unlawful: &Unlawful<'_>,
-    walk: &Walk<'_>,
-    at: usize,
-) -> Result<Option<String>, Memory> {
-    let Some(who) = unlawful.who(at) else {
-        return Ok(None);
-    };
-    let number = match who.posting {
-        Posting::Cut(entry) => entry.number,
-        Posting::Demand(demand) => demand.number,
-    };
-    let wanted = walk.next_number(who.posting.harvester());
-    Ok(Some(format!(in alloc;
-        "{} number {number}, {wanted} wanted\n",
-        unlawful.opening(&who, CALL)
-    )?))
-}
-
-/// Says that a posting doesn't have the version in force.
-fn misversioned(
-    alloc: Global,
-    unlawful: &Unlawful<'_>,
-    walk: &Walk<'_>,
-    at: usize,
-) -> Result<Option<String>, Memory> {
-    let Some(who) = unlawful.who(at) else {
-        return Ok(None);
-    };
-    let version = match who.posting {
-        Posting::Cut(entry) => entry.version,
-        Posting::Demand(demand) => demand.version,
-    };
-    let wanted = walk.version();
-    Ok(Some(format!(in alloc;
-        "{} version {version}, {wanted} wanted\n",
-        unlawful.opening(&who, CALL)
-    )?))
-}
-
-/// Says that the logs of a cut can't be cut.
-fn miscut(alloc: Global, unlawful: &Unlawful<'_>, at: usize) -> Result<Option<String>, Memory> {
-    let Some((who, entry)) = unlawful.cut(at) else {
-        return Ok(None);
-    };
-    let sheet = Sheet::base(alloc, unlawful.instruction.clone()?)?;
-    let Some(wrong) = wrong_log(&sheet, &entry.stem, entry.cutting.logs.as_slice()) else {
-        return Ok(None);
-    };
-    Ok(Some(format!(in alloc; "{} {wrong}\n", unlawful.opening(&who, LOGS))?))
-}
-
-/// Says that a cut isn't worth what it says.
-fn misvalued(alloc: Global, unlawful: &Unlawful<'_>, at: usize) -> Result<Option<String>, Memory> {
-    let Some((who, entry)) = unlawful.cut(at) else {
-        return Ok(None);
-    };
-    let Some(sheet) = unlawful.sheet(alloc, entry.version)? else {
-        return Ok(None);
-    };
-    let Some(wanted) = worth_if_admissible(&sheet, &entry.stem, &entry.cutting) else {
-        return Ok(None);
-    };
-    let found = entry.worth;
-    Ok(Some(format!(in alloc;
-        "{} worth {found}, {wanted} wanted\n",
-        unlawful.opening(&who, WORTH)
-    )?))
-}
-
-/// Says that logs of a stem are worth more, and which.
-fn outvalued(alloc: Global, unlawful: &Unlawful<'_>, at: usize) -> Result<Option<String>, Memory> {
-    let Some((who, entry)) = unlawful.cut(at) else {
-        return Ok(None);
-    };
-    let Some(sheet) = unlawful.sheet(alloc, entry.version)? else {
-        return Ok(None);
-    };
-    let (better, wanted) = best(alloc, &sheet, &entry.stem)?;
-    let found = entry.worth;
-    let mut out = format!(in alloc;
-        "{} logs worth {found}, these worth {wanted} wanted:\n",
-        unlawful.opening(&who, LOGS)
-    )?;
-    for log in better.logs.as_slice() {
-        let start = log.start;
-        let length = log.length;
-        let assortment = log.assortment;
-        let name = match unlawful
-            .instruction
-            .assortments()
-            .get(usize::from(assortment))
-        {
-            Some(found) => found.name(),
-            None => &[],
+    /// Says that a posting doesn't have its harvester's next number.
+    fn misnumbered(&self, alloc: Global, walk: &Walk<'_>, at: usize) -> Said {
+        let Some(who) = Who::of(self.journal, at) else {
+            return Ok(None);
         };
-        write!(
-            &mut out,
-            "  start {start}, length {length}, assortment {assortment} {}\n",
-            Quoted(name)
-        )?;
+        let number = match who.posting {
+            Posting::Cut(entry) => entry.number,
+            Posting::Demand(demand) => demand.number,
+        };
+        let wanted = walk.next_number(who.posting.harvester());
+        let words = format_args!("number {number}, {wanted} wanted");
+        who.say(alloc, &self.source, CALL, words)
     }
-    Ok(Some(out))
-}
 
-/// Says that new targets may not come into force.
-fn untargeted(alloc: Global, unlawful: &Unlawful<'_>, at: usize) -> Result<Option<String>, Memory> {
-    let Some(who) = unlawful.who(at) else {
-        return Ok(None);
-    };
-    let Posting::Demand(demand) = who.posting else {
-        return Ok(None);
-    };
-    let wrong = WrongTargets {
-        instruction: unlawful.instruction,
-        targets: demand.targets.as_slice(),
-    };
-    Ok(Some(format!(in alloc; "{} {wrong}\n", unlawful.opening(&who, TARGETS))?))
-}
+    /// Says that a posting doesn't have the version in force.
+    fn misversioned(&self, alloc: Global, walk: &Walk<'_>, at: usize) -> Said {
+        let Some(who) = Who::of(self.journal, at) else {
+            return Ok(None);
+        };
+        let version = match who.posting {
+            Posting::Cut(entry) => entry.version,
+            Posting::Demand(demand) => demand.version,
+        };
+        let wanted = walk.version();
+        let words = format_args!("version {version}, {wanted} wanted");
+        who.say(alloc, &self.source, CALL, words)
+    }
 
-/// Says what is wrong at the place where a way through a journal has stopped.
-fn stop_reason(
-    alloc: Global,
-    unlawful: &Unlawful<'_>,
-    walk: &Walk<'_>,
-    fault: &ReplayFault,
-) -> Result<Option<String>, Memory> {
-    match *fault {
-        ReplayFault::Sheet { version } => sheet_reason(alloc, unlawful, version),
-        ReplayFault::Price { class, .. } => price_reason(alloc, unlawful, walk, class),
-        ReplayFault::Numbering { at } => misnumbered(alloc, unlawful, walk, at),
-        ReplayFault::Version { at } => misversioned(alloc, unlawful, walk, at),
-        ReplayFault::Cutting { at } => miscut(alloc, unlawful, at),
-        ReplayFault::Worth { at } => misvalued(alloc, unlawful, at),
-        ReplayFault::Outvalued { at } => outvalued(alloc, unlawful, at),
-        ReplayFault::Targets { at } => untargeted(alloc, unlawful, at),
-        ReplayFault::Memory => Ok(None),
+    /// Says that the logs of a cut can't be cut.
+    fn miscut(&self, alloc: Global, at: usize) -> Said {
+        let Some((who, entry)) = self.cut(at) else {
+            return Ok(None);
+        };
+        match wrong_log(self.instruction, &entry.stem, entry.cutting.logs.as_slice()) {
+            Some(wrong) => who.say(alloc, &self.source, LOGS, wrong),
+            None => Ok(None),
+        }
+    }
+
+    /// Says that a cut isn't worth what it says.
+    fn misvalued(&self, alloc: Global, at: usize) -> Said {
+        let Some((who, entry)) = self.cut(at) else {
+            return Ok(None);
+        };
+        let Some(sheet) = self.sheet(alloc, entry.version)? else {
+            return Ok(None);
+        };
+        let Some(wanted) = worth_if_admissible(&sheet, &entry.stem, &entry.cutting) else {
+            return Ok(None);
+        };
+        let words = format_args!("worth {}, {wanted} wanted", entry.worth);
+        who.say(alloc, &self.source, WORTH, words)
+    }
+
+    /// Says that logs of a stem are worth more, and which.
+    fn outvalued(&self, alloc: Global, at: usize) -> Said {
+        let Some((who, entry)) = self.cut(at) else {
+            return Ok(None);
+        };
+        let Some(sheet) = self.sheet(alloc, entry.version)? else {
+            return Ok(None);
+        };
+        let (better, wanted) = best(alloc, &sheet, &entry.stem)?;
+        let mut logs = String::new(alloc);
+        for log in better.logs.as_slice() {
+            let assortment = log.assortment;
+            let found = self.instruction.assortments().get(usize::from(assortment));
+            let name = Quoted(found.map_or(&[], |found| found.name()));
+            write!(
+                &mut logs,
+                "\n  start {}, length {}, assortment {assortment} {name}",
+                log.start, log.length
+            )?;
+        }
+        let words = format_args!(
+            "logs worth {}, these worth {wanted} wanted:{logs}",
+            entry.worth
+        );
+        who.say(alloc, &self.source, LOGS, words)
+    }
+
+    /// Says that new targets may not come into force.
+    fn untargeted(&self, alloc: Global, at: usize) -> Said {
+        let Some(who) = Who::of(self.journal, at) else {
+            return Ok(None);
+        };
+        let Posting::Demand(demand) = who.posting else {
+            return Ok(None);
+        };
+        let wrong = WrongTargets {
+            instruction: self.instruction,
+            targets: demand.targets.as_slice(),
+        };
+        who.say(alloc, &self.source, TARGETS, wrong)
     }
 }
 
 /// Why a journal isn't lawful, in lines of text, given its fault. For a cut that others outvalue the best one is shown.
 /// None where that isn't its fault. Refused as `Memory` alone.
-pub fn replay_reason(
-    alloc: Global,
-    unlawful: &Unlawful<'_>,
-    fault: &ReplayFault,
-) -> Result<Option<String>, Memory> {
+pub fn replay_reason(alloc: Global, unlawful: &Unlawful<'_>, fault: &ReplayFault) -> Said {
     if let ReplayFault::Outvalued { at } = fault {
-        return outvalued(alloc, unlawful, *at);
+        return unlawful.outvalued(alloc, *at);
     }
     let journal = unlawful.journal;
     if journal.entries.len() > MOST_POSTINGS as usize {
         return Ok(None);
     }
     let stop = replay_in_order(alloc, unlawful.instruction, journal)?;
-    match stop.outcome {
-        Err(found) if found == *fault => stop_reason(alloc, unlawful, &stop.walk, fault),
-        _ => Ok(None),
+    let walk = &stop.walk;
+    if stop.outcome != Err(*fault) {
+        return Ok(None);
+    }
+    match *fault {
+        ReplayFault::Sheet { version } => sheet_reason(alloc, unlawful, version),
+        ReplayFault::Price { class, .. } => price_reason(alloc, unlawful, walk, class),
+        ReplayFault::Numbering { at } => unlawful.misnumbered(alloc, walk, at),
+        ReplayFault::Version { at } => unlawful.misversioned(alloc, walk, at),
+        ReplayFault::Cutting { at } => unlawful.miscut(alloc, at),
+        ReplayFault::Worth { at } => unlawful.misvalued(alloc, at),
+        ReplayFault::Targets { at } => unlawful.untargeted(alloc, at),
+        ReplayFault::Outvalued { .. } | ReplayFault::Memory => Ok(None),
     }
 }

@@ -10,113 +10,42 @@ pub(crate) struct Difference<'a> {
     pub(crate) wanted: &'a Stem,
 }
 
-/// The first place, counted from 1, where two lists differ, and what stands there in both.
-#[derive(Clone, Copy)]
-struct Apart {
-    place: usize,
-    found: u32,
-    wanted: u32,
-}
-
-fn samples_apart(found: &[u16], wanted: &[u16]) -> Option<Apart> {
-    let mut place = 1usize;
-    for (one, other) in found.iter().zip(wanted) {
+/// The first place, counted from 0, where two lists differ, and what stands there in both.
+fn first_apart<T: PartialEq + Copy>(found: &[T], wanted: &[T]) -> Option<(usize, T, T)> {
+    for (place, (one, other)) in found.iter().zip(wanted).enumerate() {
         if *one != *other {
-            return Some(Apart {
-                place,
-                found: u32::from(*one),
-                wanted: u32::from(*other),
-            });
+            return Some((place, *one, *other));
         }
-        place = place.saturating_add(1);
     }
     None
-}
-
-/// Where two lists of zones first differ, each of which is two numbers of its item.
-fn zones_apart(found: &[(u32, u8)], wanted: &[(u32, u8)]) -> Option<Apart> {
-    let mut place = 1usize;
-    for (one, other) in found.iter().zip(wanted) {
-        let (start, grade) = *one;
-        let (other_start, other_grade) = *other;
-        if start != other_start {
-            return Some(Apart {
-                place,
-                found: start,
-                wanted: other_start,
-            });
-        }
-        if grade != other_grade {
-            return Some(Apart {
-                place: place.saturating_add(1),
-                found: u32::from(grade),
-                wanted: u32::from(other_grade),
-            });
-        }
-        place = place.saturating_add(2);
-    }
-    None
-}
-
-/// How two lists of numbers differ, where they do.
-#[derive(Clone, Copy)]
-struct Lists {
-    name: &'static str,
-    apart: Option<Apart>,
-    /// How many numbers they have.
-    found: usize,
-    wanted: usize,
-}
-
-impl Lists {
-    fn differ(&self) -> bool {
-        self.apart.is_some() || self.found != self.wanted
-    }
-}
-
-impl fmt::Display for Lists {
-    fn fmt<W: fmt::Write>(&self, f: &mut fmt::Formatter<W>) -> fmt::Result {
-        let name = self.name;
-        match self.apart {
-            Some(apart) => {
-                let place = apart.place;
-                let found = apart.found;
-                let wanted = apart.wanted;
-                write!(f, "{name}: {found} at place {place}, {wanted} wanted")
-            }
-            None => {
-                let wanted = self.wanted;
-                write!(
-                    f,
-                    "{name}: {}, {wanted} wanted",
-                    Several(self.found, "number")
-                )
-            }
-        }
-    }
 }
 
 impl Difference<'_> {
-    fn samples(&self) -> Lists {
+    /// Writes how the diameters differ, or else the zones, each of which is two numbers of its item.
+    fn write_lists<W: fmt::Write>(&self, f: &mut fmt::Formatter<W>) -> fmt::Result {
         let found = self.found.samples();
         let wanted = self.wanted.samples();
-        Lists {
-            name: "diameters",
-            apart: samples_apart(found, wanted),
-            found: found.len(),
-            wanted: wanted.len(),
+        if let Some((place, one, other)) = first_apart(found, wanted) {
+            let place = place.saturating_add(1);
+            return write!(f, "diameters: {one} at place {place}, {other} wanted");
         }
-    }
-
-    fn zones(&self) -> Lists {
+        if found.len() != wanted.len() {
+            let numbers = Several(found.len(), "number");
+            return write!(f, "diameters: {numbers}, {} wanted", wanted.len());
+        }
         let found = self.found.zones();
         let wanted = self.wanted.zones();
-        Lists {
-            name: "zones",
-            apart: zones_apart(found, wanted),
-            found: found.len().saturating_mul(2),
-            wanted: wanted.len().saturating_mul(2),
+        let Some((place, one, other)) = first_apart(found, wanted) else {
+            let numbers = Several(found.len().saturating_mul(2), "number");
+            let all = wanted.len().saturating_mul(2);
+            return write!(f, "zones: {numbers}, {all} wanted");
+        };
+        let place = place.saturating_mul(2).saturating_add(1);
+        if one.0 != other.0 {
+            return write!(f, "zones: {} at place {place}, {} wanted", one.0, other.0);
         }
+        let place = place.saturating_add(1);
+        write!(f, "zones: {} at place {place}, {} wanted", one.1, other.1)
     }
 }
 
@@ -132,10 +61,6 @@ impl fmt::Display for Difference<'_> {
         if found != wanted {
             return write!(f, "species {found}, {wanted} wanted");
         }
-        let samples = self.samples();
-        if samples.differ() {
-            return write!(f, "{samples}");
-        }
-        write!(f, "{}", self.zones())
+        self.write_lists(f)
     }
 }

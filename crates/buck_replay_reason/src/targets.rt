@@ -13,37 +13,20 @@ pub struct WrongTargets<'a> {
     pub targets: &'a [u32],
 }
 
-/// The targets of an assortment, of all.
-#[derive(Clone, Copy)]
-struct Part<'a> {
-    name: &'a [u8],
-    sum: u64,
-}
-
-/// The numbers from a place on together, so many of them.
-fn sum_from(numbers: &[u32], first: usize, many: usize) -> u64 {
-    let mut sum = 0u64;
-    for number in numbers.iter().skip(first).take(many) {
-        sum = sum.saturating_add(u64::from(*number));
-    }
-    sum
-}
-
 impl<'a> WrongTargets<'a> {
-    /// The part of an assortment, if there is one.
-    fn part(&self, place: usize) -> Option<Part<'a>> {
-        let mut first = 0usize;
-        let mut at = 0usize;
-        for assortment in self.instruction.assortments() {
-            let classes = assortment.classes();
+    /// The name of an assortment, if there is one, and its targets together.
+    fn part(&self, place: usize) -> Option<(&'a [u8], u64)> {
+        let mut rest = self.targets;
+        for (at, assortment) in self.instruction.assortments().iter().enumerate() {
+            let split = rest.split_at_checked(assortment.classes());
+            let (own, behind) = split.unwrap_or((rest, &[]));
             if at == place {
-                return Some(Part {
-                    name: assortment.name(),
-                    sum: sum_from(self.targets, first, classes),
+                let sum = own.iter().fold(0u64, |sum, target| {
+                    sum.saturating_add(u64::from(*target))
                 });
+                return Some((assortment.name(), sum));
             }
-            first = first.saturating_add(classes);
-            at = at.saturating_add(1);
+            rest = behind;
         }
         None
     }
@@ -71,18 +54,17 @@ impl fmt::Display for WrongTargets<'_> {
                     TARGETS.high
                 )
             }
-            Err(TargetsFault::Sum { assortment }) => match self.part(assortment) {
-                None => Ok(()),
-                Some(part) => {
-                    let sum = part.sum;
-                    let most = MOST_TARGETS_TOGETHER;
-                    write!(
-                        f,
-                        "targets (982 2) of assortment {assortment} {}: {sum} together, at most {most} wanted",
-                        Quoted(part.name)
-                    )
-                }
-            },
+            Err(TargetsFault::Sum { assortment }) => {
+                let Some((name, sum)) = self.part(assortment) else {
+                    return Ok(());
+                };
+                let name = Quoted(name);
+                let most = MOST_TARGETS_TOGETHER;
+                write!(
+                    f,
+                    "targets (982 2) of assortment {assortment} {name}: {sum} together, at most {most} wanted"
+                )
+            }
         }
     }
 }
