@@ -16,8 +16,8 @@
   `pricing::put_list`, one of a file that has these too. A path, as `file/plain`, is the end of one that is there.
 - No source names a page in specs/inner/ of another crate.
 - Each caller and each edit says what its wrong body does; docs/WRONG_BODIES.md is as checks/wrong_bodies.py writes it.
-- Documents have each habit of HABITS no more often than stands there, and *what* at most MOST_WHAT times in 1,000 words,
-  the pages of FORMS apart.
+- Documents have each habit of HABITS no more often than stands there, and *what* at most MOST_WHAT times in 1,000 words;
+  texts of the program, as the sentences in docs/FAULTS.md, don't count.
 - Each public item of a product crate has a doc comment. That of each public number, a constant, a field or one in a
   variant, says its unit, its range, from where it counts, or what it counts, in one of the words of UNITS.
 - No line of src/ and specs/ of a product crate is wider than 120 columns, imports aside, but for as many as WIDE allows
@@ -69,18 +69,19 @@ WIDE = {
     "buckfleet": 4,
 }
 
-# Documents that scripts write, and the pages of forms, commands and faults.
+# Documents that scripts write, and the page whose rows of more than two cells have texts of the program.
 WRITTEN = {"docs/HEADLINE.md", "docs/WRONG_BODIES.md"}
-FORMS = {"docs/FORMATS.md", "docs/COMMANDS.md", "docs/FAULTS.md"}
+FAULTS = "docs/FAULTS.md"
 
-# Habits that documents drop, and how many may still stand in FORMS, and in all others together. The numbers only fall.
+# Habits that documents drop, and how many may still stand in all together. The numbers only fall.
 HABITS = {
-    r"anew": (6, 0),
-    r"by turns": (2, 0),
-    r"h(angs?|ung) on": (0, 0),
-    r"(is|are|was|were|be|been) told": (0, 0),
-    r"look(s|ed|ing)? whether": (16, 0),
-    r"where": (12, 16),
+    r"anew": 0,
+    r"by turns": 0,
+    r"h(angs?|ung) on": 0,
+    r"(is|are|was|were|be|been) told": 0,
+    r"look(s|ed|ing)? whether": 0,
+    r"since": 3,
+    r"where": 5,
 }
 MOST_WHAT = 5
 
@@ -312,21 +313,29 @@ def wrong_citations():
                 yield f"{path} names a page in specs/inner/ of {crate}"
 
 
-def wrong_habits():
-    """Habits that documents have too often; the pages of crates count as one document."""
-    said = {}
+def said():
+    """The words of each document, without blocks of code and texts of the program; pages of crates are one document."""
+    found = {}
     for path in documents():
         if path not in WRITTEN:
+            text = re.sub(r"(?ms)^```.*?^```", "", read(path))
+            if path == FAULTS:
+                text = re.sub(r"(?m)^\|(?:[^|\n]*\|){3,}$", "", text)
             page = "crates" if path.startswith("crates/") else path
-            said[page] = said.get(page, "") + re.sub(r"(?ms)^```.*?^```", "", read(path))
-    for habit, allowed in HABITS.items():
-        for pages, most in zip((FORMS & said.keys(), said.keys() - FORMS), allowed):
-            found = {page: len(re.findall(rf"(?i)\b{habit}\b", said[page])) for page in sorted(pages)}
-            if sum(found.values()) > most:
-                told = ", ".join(f"{page} {number}" for page, number in found.items() if number)
-                yield f"documents have '{habit}' {sum(found.values())} times, {most} may stand: {told}"
-    for page in sorted(said.keys() - FORMS):
-        number, words = len(re.findall(r"(?i)\bwhat\b", said[page])), len(said[page].split())
+            found[page] = found.get(page, "") + text
+    return found
+
+
+def wrong_habits():
+    """Habits that documents have too often."""
+    pages = said()
+    for habit, most in HABITS.items():
+        found = {page: len(re.findall(rf"(?i)\b{habit}\b", pages[page])) for page in sorted(pages)}
+        if sum(found.values()) > most:
+            told = ", ".join(f"{page} {number}" for page, number in found.items() if number)
+            yield f"documents have '{habit}' {sum(found.values())} times, {most} may stand: {told}"
+    for page, text in sorted(pages.items()):
+        number, words = len(re.findall(r"(?i)\bwhat\b", text)), len(text.split())
         if number * 1000 > MOST_WHAT * words:
             yield f"{page} has 'what' {number} times in {words} words, {MOST_WHAT} in 1,000 may stand"
 
