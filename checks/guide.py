@@ -413,8 +413,8 @@ def sentences(runs, order, few, tuned, rows):
     )
     yield (
         f"In the same stands, at a limit of 300, lengths within a row then reached {own[0]:.0f} % instead of "
-        f"{mixed[0]:.0f} % with `linear`, at about the same cost ({own[1]:.1f} %), and {own_step[0]:.0f} % instead of "
-        f"{mixed_step[0]:.0f} % with `step`, at {own_step[1]:.1f} % instead of {mixed_step[1]:.1f} %.",
+        f"{mixed[0]:.0f} % with `linear`, at about the same cost ({own[1]:.1f} %). With `step` they reached "
+        f"{own_step[0]:.0f} % instead of {mixed_step[0]:.0f} %, at {own_step[1]:.1f} % instead of {mixed_step[1]:.1f} %.",
         own[0] > mixed[0] + 2 and own_step[0] > mixed_step[0] + 10 and abs(own[1] - mixed[1]) < 0.2,
     )
     mill, made = (at(100, "root", limit, found=tuned) for limit in (200, 80))
