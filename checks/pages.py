@@ -78,7 +78,7 @@ The page shows {lines} lines of the sources, from {files} files: {clauses} of th
 
 A comment that calls a type valid or lawful describes its invariant, which the checker keeps: of `Instruction`, `Assortment`, `Stem`, `Sheet` and `Plan` it is `IsInstruction`, `IsAssortment`, `IsStem`, `IsSheet` and `IsPlan`; that of `Parts`, and so of `Closed`, contains `IsLawful`. So a history that `close` refuses is lawful too.
 
-The standard library, `atomic_table` and `boxcar` are not repeated; [PROOFS](PROOFS.md#what-is-assumed) has what else is assumed, and what is not proved. Of a `CutFault`, a `RetargetFault` and a caller's `Gate`, which is told of each plan, no clause here says anything, so they are not shown.
+The standard library, `atomic_table` and `boxcar` are not repeated; [PROOFS](PROOFS.md#what-is-assumed) has what else is assumed, and what is not proved. Of a `CutFault`, a `RetargetFault` and a caller's `Gate`, which hears each plan, no clause here says anything, so they are not shown.
 
 ## Seats of another fleet
 
@@ -86,7 +86,7 @@ The standard library, `atomic_table` and `boxcar` are not repeated; [PROOFS](PRO
 
 A *ledger* (`std::sync::ledger`) is a number of parts that exists in proofs alone; `L` names one, and `L.parts` is its number. A `Blank` is a ledger that is in use nowhere: it has a name of its own, can't be copied, and `open` uses it up. Because `open` requires that this name is `L`'s (`blank`), at most one fleet is ever opened with `L`, and `L.parts` is 64.
 
-`open` hands out seats that have all 64 parts together (`AreOpened`). The library's ledger keeps that all holders have `L.parts` parts together, and every seat has at least one (an invariant of `Seat`). `close` requires that its seats have `L.parts` parts together, so they are all the seats that the fleet has. A seat of another fleet has parts of another ledger, and so another type. A seat that is dropped takes its parts with it; its fleet can't be closed.
+`open` hands out seats that have all 64 parts together (`AreOpened`). All holders of parts of one ledger have `L.parts` together (the library keeps it so), and every seat has at least one (an invariant of `Seat`). `close` requires that its seats have `L.parts` parts together, so they are all the seats that the fleet has. A seat of another fleet has parts of another ledger, and so another type. A seat that is dropped takes its parts with it; its fleet can't be closed.
 
 Of the public calls of `buck_fleet`, only `run_fleet` takes seats beside those on this page. So nothing else changes a kept list.
 
