@@ -11,8 +11,8 @@
  * Units: places in mm from the butt, lengths in mm, diameters in mm under bark, worths in millionths of the price unit.
  * Indexes, positions and versions count from 0.
  *
- * Text: a call that puts a text into `out` sets `*written` to its bytes. If these are more than `out_length`, it
- * answers TOO_SMALL and writes nothing else: call again with that much. `out` may be null and `out_length` 0, to ask
+ * Text: a call that puts a text into `out` sets `*written` to its length in bytes. If that is more than `out_length`,
+ * it answers TOO_SMALL and writes nothing else: call again with that much. `out` may be null and `out_length` 0, to ask
  * for the length; the call does all its work then, too. With REFUSED to READ the text is the fault line that the
  * program `buckfleet` prints; with CLOSED and MISUSED `*written` is 0.
  *
@@ -113,9 +113,9 @@ typedef struct buckfleet_texts {
 
 /*
  * As `buckfleet fleet --in-turn --rule RULE --journal OUT`: harvester k cuts the k-th stem file. `files`: the bytes of
- * the instruction file and of 1 to 64 stem files, one after the other; `lengths`: of each. Text: journal and report, or
- * the fault line; `*texts` stands for `*written`. Answers OK, REFUSED, SEATS, MEMORY, READ, TOO_SMALL, MISUSED (also if
- * there is no instruction, or the lengths don't add up to `files_length`).
+ * the instruction file and of 1 to 64 stem files, one after the other; `lengths`: that of each. Text: journal and
+ * report, or the fault line; `*texts` stands for `*written`. Answers OK, REFUSED, SEATS, MEMORY, READ, TOO_SMALL,
+ * MISUSED (also if there is no instruction, or the lengths don't add up to `files_length`).
  */
 uint8_t buckfleet_in_turn(const uint8_t *files, size_t files_length, const size_t *lengths, size_t lengths_length,
     uint8_t rule, uint8_t *out, size_t out_length, buckfleet_texts *texts);
