@@ -88,7 +88,7 @@ A *ledger* (`std::sync::ledger`) is a number of parts that exists in proofs alon
 
 `open` hands out seats that have all 64 parts together (`AreOpened`). All holders of parts of one ledger have `L.parts` together (the library keeps it so), and every seat has at least one (an invariant of `Seat`). `close` requires that its seats have `L.parts` parts together, so they are all the seats that the fleet has. A seat of another fleet has parts of another ledger, and so another type. A seat that is dropped takes its parts with it; its fleet can't be closed.
 
-Of the public calls of `buck_fleet`, only `run_fleet` takes seats beside those on this page. So nothing else changes a kept list.
+Of the public calls of `buck_fleet`, only those on this page and `run_fleet` can change a seat: nothing else changes a kept list.
 
 ## How to read it
 
