@@ -43,7 +43,7 @@ pub record IsAppraised (task : AppraiseTask) (apt : Option (List ℕ)) (files : 
 abbrev pub HasOwner : Option (List ℕ) → InstructionParts → Type 0
 HasOwner own i = (owner : InstructionParts) × Says apt_of own (Ok owner) × HasShapeOf i owner
 
--- why there is none: as of journals that are shown; or the owner's instruction is refused; or, where it isn't, a journal
+-- why there is none: as of journals that are shown; or the owner's instruction is refused; or, if it isn't, a journal
 -- isn't lawful
 abbrev pub IsAppraiseFault : AppraiseTask → Option (List ℕ) → List (Option (List ℕ)) → Option (List ℕ) × ℕ → TermsFault
     → Type 0

@@ -126,7 +126,7 @@ pub record IsWishIn (i : InstructionParts) (targets unsteered : List ℕ) (at cl
 abbrev pub IsWishAt : InstructionParts → List ℕ → ℕ → ℕ → Type 0
 IsWishAt i unsteered at class = IsWishIn i (opening_targets i) unsteered at class
 
--- what the runs of a wish are put in order by: what was cut in the draws, or, where there are none, in the files' order.
+-- what the runs of a wish are put in order by: what was cut in the draws, or, if there are none, in the files' order.
 -- The runs with all wishes are the same for each, so that what cuts more gains more
 abbrev pub worth_in : Outcome → List Outcome → ℕ
 worth_in own [] = own.at_base

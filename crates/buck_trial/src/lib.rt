@@ -2,7 +2,7 @@
 //!
 //! [`serve_trial`] compares rules, periods and limits as a sweep does, with other targets than the instruction's, and
 //! over orders of the stems that are drawn by chance. [`serve_wishes`] finds what each target costs: a run with each in
-//! its turn moved half way to what the class has unsteered. [`serve_tune`] finds the base prices that such stems ask for.
+//! its turn moved half way to what the class has unsteered. [`serve_tune`] finds base prices that such stems ask for.
 //! [`run_trial`], [`run_wishes`] and [`run_tune`] are the same over open files, [`TrialTask`], [`WishesTask`] and
 //! [`TuneTask`] what they are asked.
 #![tactic(auto)]

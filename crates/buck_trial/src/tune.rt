@@ -80,7 +80,7 @@ fn tuned_price(parts: &Parts, class: usize, base: u32) -> u32
 
 /// The base prices that a history tunes, one for each class, assortment by assortment and row by row: that of a class
 /// is the mean of its prices in force over all postings, rounded to the nearest, a half upwards, and at least 1 and at
-/// most 10,000,000. A class that isn't bought stays so, and without postings all prices stay. Refused as `Memory` alone.
+/// most 10,000,000. A class that isn't bought stays so; without postings all prices stay. Refused as `Memory` alone.
 #[tactic(auto, using(crate::proofs::Tuned::base_low))]
 pub fn tuned_prices(alloc: Global, parts: &Parts) -> Result<Vec<u32>, Memory>
     ensures tuned { IfOk result (λ prices. AreTuned parts.now prices.items) }
