@@ -129,7 +129,8 @@ pub not_served : {O F : Type 0} (opens : O → List ℕ → Option F → O → T
     (Answers : Opened F → Result (List ℕ) TermsFault → Type 0) (start end : O) (apt : List ℕ)
     (names stms : List (List ℕ)) (targets : Option (List ℕ)) (old : Option (List ℕ)) (why : EngineFault)
     (r : Result (Unit {0}) TermsFault) → IsErrAnd r (λ x. x ≡ Run why) → names ≡ stms
-    → AnswersFiles opens start end apt names targets (Err why) → RunsFiles opens Answers start end apt stms targets old old r
+    → AnswersFiles opens start end apt names targets (Err why)
+    → RunsFiles opens Answers start end apt stms targets old old r
 not_served opens Answers start end apt names stms targets old why (Ok u) err same is = absurd err
 not_served opens Answers start end apt names stms targets old why (Err e) err same is = record {
   opened = Err why;

@@ -76,14 +76,14 @@ some_gains at wholes (run ∷ more) gs cs s t some gains changes is_s is_t = (
 )
 
 -- both spreads were put
-pub put_both : {E : Type 0} (at : ℕ) (wholes runs : List Outcome) (gs cs g_slice c_slice : List (Option Change))
+pub put_both : {E : Type 0} (at : ℕ) (wholes runs : List Outcome) (gs cs gl cl : List (Option Change))
     (s t : Option Spread) (old mid new : List ℕ) (r : Result (Unit {0}) E) → 0 < length runs
     → AllZip IsChangeOf (gains_in wholes runs) gs → AllZip IsChangeOf (changes_in at wholes runs) cs
-    → g_slice ≡ gs → c_slice ≡ cs → IsSpread g_slice s → IsSpread c_slice t
+    → gl ≡ gs → cl ≡ cs → IsSpread gl s → IsSpread cl t
     → mid ≡ old ++ spread_cells s → OnOk r (new ≡ mid ++ spread_cells t)
     → OnOk r ((x : List ℕ) × AreGains at wholes runs x × (new ≡ old ++ x))
-put_both at wholes runs gs cs g_slice c_slice s t old mid new (Err e) some gains changes g_is c_is is_s is_t first put = tt
-put_both at wholes runs gs cs g_slice c_slice s t old mid new (Ok u) some gains changes g_is c_is is_s is_t first put = (
+put_both at wholes runs gs cs gl cl s t old mid new (Err e) some gains changes g_is c_is is_s is_t first put = tt
+put_both at wholes runs gs cs gl cl s t old mid new (Ok u) some gains changes g_is c_is is_s is_t first put = (
   spread_cells s ++ spread_cells t,
   some_gains at wholes runs gs cs s t some gains changes
       (subst (λ (l : List (Option Change)). IsSpread l s) g_is is_s)

@@ -137,7 +137,8 @@ module _ (i : InstructionParts) (ts us : List ℕ) (at class : ℕ) where
         let before = wanted.low_sums k lt a there in
         elim (cases_eq k at) [
           | inl e ↦ (
-              let there_too : slice_get i.assortments at ≡ Some a = subst (λ n. slice_get i.assortments n ≡ Some a) e there in
+              let there_too : slice_get i.assortments at ≡ Some a =
+              subst (λ n. slice_get i.assortments n ≡ Some a) e there in
               let long : length (part_of i a k ts) ≡ classes_of a =
               piece_length classes_of i.assortments k a ts there wanted.one_each in
               let low = moved_sum (part_of i a k ts) (part_of i a k us) class

@@ -55,8 +55,8 @@ is_run rule i lists targets order run h counts cut worth counted are least = rec
 }
 
 -- what is cut in the order of a draw
-pub cut_drawn : (rule : NamedRule) (i : InstructionParts) (lists slice ordered other : List (Vec (Arc Stem Global) Global))
-    (start : ℕ) (order : Option ℕ) (r : Result HistoryParts EngineFault) → order ≡ Some start → slice ≡ lists
+pub cut_drawn : (rule : NamedRule) (i : InstructionParts)
+    (lists slice ordered other : List (Vec (Arc Stem Global) Global)) (start : ℕ) (order : Option ℕ) (r : Result HistoryParts EngineFault) → order ≡ Some start → slice ≡ lists
     → AreDrawn start slice ordered → other ≡ ordered → IfOk r (λ h. h.instruction ≡ i) → IfOk r (HasCut rule other)
     → IfOk r (HasCutOf rule i lists order)
 cut_drawn rule i lists slice ordered other start order (Err e) is same drawn shown own cut = tt
@@ -201,10 +201,12 @@ module _ (i : InstructionParts) (us : List ℕ) (at : ℕ) (targets unsteered : 
 -- what is told of a wish whose runs were made with its target moved
 pub told_is : (a : Asking) (i : InstructionParts) (whole runs : Runs) (wish : Wish) (moved : List ℕ) (told : Told)
     → IsWishAt a.instruction.value a.unsteered.items wish.assortment wish.class
-    → IsMoved a.instruction.value (opening_targets a.instruction.value) a.unsteered.items wish.assortment wish.class moved
+    → IsMoved a.instruction.value (opening_targets a.instruction.value) a.unsteered.items wish.assortment wish.class
+    moved
     → i ≡ with_targets moved a.instruction.value → AreRunsBy a i runs → told.wish ≡ wish
     → told.worth ≡ worth_in runs.own runs.drawn.items
-    → IsWishLine a.instruction.value a.unsteered.items moved whole runs wish told.line.items → IsToldOf a whole wish told
+    → IsWishLine a.instruction.value a.unsteered.items moved whole runs wish told.line.items
+    → IsToldOf a whole wish told
 told_is a i whole runs wish moved told is_wish is_moved same are is worth line =
     let there : (P : Wish → Type 0) → P wish → P told.wish = λ P p. subst P (sym is) p in
     record {
@@ -216,8 +218,8 @@ told_is a i whole runs wish moved told is_wish is_moved same are is worth line =
             w.assortment w.class moved) is_moved;
         runs = runs;
         are_runs =
-            subst (λ (x : InstructionParts). AreRunsOf a.rule x a.input.lists.items (opening_targets a.instruction.value)
-            a.starts.items runs) same are;
+            subst (λ (x : InstructionParts). AreRunsOf a.rule x a.input.lists.items
+            (opening_targets a.instruction.value) a.starts.items runs) same are;
         worth_is = worth;
         is_line =
             there (λ w. IsWishLine a.instruction.value a.unsteered.items moved whole runs w told.line.items) line;

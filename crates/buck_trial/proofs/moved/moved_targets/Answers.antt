@@ -15,9 +15,10 @@ loop-place-preserved c =
     omega (arith, c.loop-place-test.true, ap length c.assortments-place-end.ensures.items) in
     elim c.if-place-at.branch [
       | then-place-at+in_ok-put_moved w ↦
-          moved_more i ts us c.args.at c.args.class c.loop-place.place c.loop-place.moved.items c.if-place-at.moved.items
-          asked.targets.now asked.unsteered.now lt c.requires.targets w.if-place-at.true c.of-asked.ensures.targets
-          c.of-asked.ensures.unsteered (ap (λ v. v.items) w.moved-is ∙ w.in_ok-put_moved.ensures) c.loop-place.invariant
+          moved_more i ts us c.args.at c.args.class c.loop-place.place c.loop-place.moved.items
+          c.if-place-at.moved.items asked.targets.now asked.unsteered.now lt c.requires.targets w.if-place-at.true
+          c.of-asked.ensures.targets c.of-asked.ensures.unsteered
+          (ap (λ v. v.items) w.moved-is ∙ w.in_ok-put_moved.ensures) c.loop-place.invariant
       | else-place-at+in_ok-extend_from_slice w ↦
           kept_more i ts us c.args.at c.args.class c.loop-place.place c.loop-place.moved.items c.if-place-at.moved.items
           asked.targets.now lt c.requires.targets w.if-place-at.false c.of-asked.ensures.targets

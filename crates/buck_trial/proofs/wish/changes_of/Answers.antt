@@ -10,5 +10,6 @@ loop-k-preserved c =
     c.index-wholes-k.result c.index-runs-k.result c.loop-k.changes.items c.push.new.self.items c.change_of.result
     c.requires c.loop-k-test.true c.index-wholes-k.is c.index-runs-k.is c.loop-k.invariant
     (subst (λ d. IsChangeOf (both d (degree_in c.index-runs-k.result at)) c.change_of.result) c.degree.ensures
-    (subst (λ d. IsChangeOf (both c.degree.result d) c.change_of.result) c.degree-in-loop-k.ensures c.change_of.ensures))
+    (subst (λ d. IsChangeOf (both c.degree.result d) c.change_of.result) c.degree-in-loop-k.ensures
+    c.change_of.ensures))
     c.in_ok-push.ensures.items

@@ -17,7 +17,8 @@ runs-requires-clause-classes c =
 
 pub worth_of-requires : goal.worth_of-requires
 worth_of-requires c =
-    let long = zip_length (λ start run. IsRunBy c.args.asking.now c.in_ok-instruction.instruction.value (Some start) run)
+    let long =
+    zip_length (λ start run. IsRunBy c.args.asking.now c.in_ok-instruction.instruction.value (Some start) run)
     c.args.asking.now.starts.items c.in_ok-runs.runs.drawn.items c.in_ok-runs.ensures.ok.drawn in
     omega (arith, long, c.requires.asking.number)
 

@@ -25,7 +25,8 @@ returns-clause-ok g c =
     let text =
     subst (λ s. made.items ≡ wishes_head s ++ (whole_line s whole ++ lines c.sort_by.new.self.items))
     c.as_slice-2.ensures.value
-    (subst (λ l. made.items ≡ wishes_head c.as_slice-2.result.now ++ (whole_line c.as_slice-2.result.now whole ++ lines l))
+    (subst (λ l. made.items ≡ wishes_head c.as_slice-2.result.now
+    ++ (whole_line c.as_slice-2.result.now whole ++ lines l))
     c.as_slice-3.ensures.value c.in_ok-text_of.ensures) in
     are_wishes c.args.asking.now c.in_ok-whole.whole c.in_ok-wishes.wishes.items c.in_ok-told.told.items
     c.sort_by.new.self.items c.in_ok-text_of.field-0.items c.requires.asking c.wishes_of.ensures.valid

@@ -8,7 +8,13 @@ cut_by_name-requires-in-Some c = record {
   few =
       (let long = drawn_length c.in-Some.start c.as_slice-lists.result.now c.in_ok-order-in-Some.order.items
       c.in_ok-order-in-Some.ensures in
-      omega (arith, long, ap length c.as_slice-lists.ensures.value, ap length c.as_slice.ensures.value, c.requires.few));
+      omega (
+        arith,
+        long,
+        ap length c.as_slice-lists.ensures.value,
+        ap length c.as_slice.ensures.value,
+        c.requires.few,
+      ));
 }
 
 pub returns-in_ok-order-in-Some-clause-ok : goal.returns-in_ok-order-in-Some-clause-ok
