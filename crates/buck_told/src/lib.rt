@@ -7,7 +7,6 @@
 mod items;
 mod line;
 mod rows;
-mod several;
 mod told;
 
-pub use several::sentence;
+pub use told::sentence;

@@ -11,6 +11,9 @@ const WHOLE: [u16; 2] = [901, 910];
 /// The items of an assortment in which it may not differ: species, grades, lengths and trim.
 const PART: [u16; 4] = [912, 913, 916, 919];
 
+/// The most journals that are shown together.
+const MOST_JOURNALS: u64 = 64;
+
 /// A fault line, and the words of the row that it fits.
 #[derive(Clone, Copy)]
 struct Line<'a> {
@@ -107,9 +110,15 @@ impl<'a> Line<'a> {
         Ok(true)
     }
 
-    /// Its sentence, which is put from these pieces. None where it can't be.
-    fn sentence(&self, alloc: Global, text: &str) -> Result<Option<Vec<u8>>, AllocError> {
+    /// Its sentence behind these words, which is put from these pieces. None where it can't be.
+    fn sentence(
+        &self,
+        alloc: Global,
+        before: &str,
+        text: &str,
+    ) -> Result<Option<Vec<u8>>, AllocError> {
         let mut out = String::new(alloc);
+        out.push_str(before)?;
         for piece in text.split('{') {
             match piece.split_once('}') {
                 Some((part, rest)) => {
@@ -139,17 +148,43 @@ fn fitting(row: &Row, words: &[&str]) -> Option<&'static str> {
     None
 }
 
-/// The sentence of a fault line: what is wrong, with the numbers of the line put in, and what to do next. None where
-/// there is no such line: other words, a field too few or too many, an item that the file doesn't have.
-///
-/// The words of the line are set apart by white bytes. A number has at most 20 digits, and may have leading zeros.
-pub(crate) fn sentence(alloc: Global, line: &str) -> Result<Option<Vec<u8>>, AllocError> {
-    let words = words_of(alloc, line)?;
-    let words = words.as_slice();
+/// The sentence of a line of these words, behind others; none where there is no such line.
+fn sentence_of(alloc: Global, before: &str, words: &[&str]) -> Result<Option<Vec<u8>>, AllocError> {
     for row in &ROWS {
         if let Some(found) = fitting(row, words) {
-            return Line { words, row: found }.sentence(alloc, row.sentence);
+            return Line { words, row: found }.sentence(alloc, before, row.sentence);
         }
     }
     Ok(None)
+}
+
+/// Whether a word is the number of one of several journals: 1 to 64.
+fn is_journal(word: &str) -> bool {
+    word.parse::<u64>()
+        .is_ok_and(|number| 1 <= number && number <= MOST_JOURNALS)
+}
+
+/// The sentence of a fault line: what is wrong, with the numbers of the line put in, and what to do next. None where
+/// there is no such line: other words, a field too few or too many, an item that the file doesn't have. That of one of
+/// several journals says which, 1 to 64, and that of an owner's instruction that it is of that.
+///
+/// The words of the line are set apart by white bytes. A number has at most 20 digits, and may have leading zeros.
+pub fn sentence(alloc: Global, line: &str) -> Result<Option<Vec<u8>>, AllocError> {
+    let mut words = words_of(alloc, line)?;
+    match words.as_slice() {
+        ["own", ..] => {
+            let own = sentence_of(alloc, "", words.as_slice())?;
+            if own.is_some() {
+                return Ok(own);
+            }
+            words[0] = "apt";
+            sentence_of(alloc, "Of the owner's instruction: ", words.as_slice())
+        }
+        ["journal" | "replay", number, ..] if is_journal(number) => {
+            let before = format!(in alloc; "Of journal {number}: ")?;
+            let _ = words.remove(1);
+            sentence_of(alloc, before.as_str(), words.as_slice())
+        }
+        _ => sentence_of(alloc, "", words.as_slice()),
+    }
 }
