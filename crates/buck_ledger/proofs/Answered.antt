@@ -25,6 +25,7 @@ use Rattle.buck_ledger.specs.declared.task.AppraiseTask.{AppraiseTask}
 use Rattle.buck_ledger.specs.declared.task.CompareTask.{CompareTask}
 use Rattle.buck_ledger.specs.Appraisal.{IsAppraisal}
 use Rattle.buck_ledger.specs.Comparison.{SaysTwo}
+use Rattle.buck_ledger.specs.Text.{appraisal_text}
 use Rattle.buck_ledger.specs.Serving.{AnswersAppraise, AnswersCompare, HasOwner}
 
 -- no text of an appraisal
@@ -83,9 +84,9 @@ module _ (task : AppraiseTask) (apt : Option (List ℕ)) (files : List (Option (
   pub appraised_so : (i owner : InstructionParts) (js : List JournalParts) (text : List ℕ)
       → Says (apt_with task.settings) apt (Ok i) → HaveJournals files js → length (postings_of js) ≤ MOST_POSTINGS
       → Says apt_of own.0 (Ok owner) → HasShapeOf i owner → AreLawful i js
-      → (p : Appraisal) × IsAppraisal owner (postings_of js) p
+      → (p : Appraisal) × IsAppraisal owner (postings_of js) p × (text ≡ appraisal_text i p)
       → AnswersAppraise task apt files own (Ok text)
-  appraised_so i owner js text says have few own_says shape lawful (p, is) = record {
+  appraised_so i owner js text says have few own_says shape lawful (p, is, text_is) = record {
     instruction = i;
     journals = js;
     owner = owner;
@@ -97,6 +98,7 @@ module _ (task : AppraiseTask) (apt : Option (List ℕ)) (files : List (Option (
     shape = shape;
     lawful = lawful;
     is_appraisal = is;
+    text_is = text_is;
   }
 
 -- no text of a comparison

@@ -21,12 +21,13 @@ use Rattle.buck_ledger.specs.declared.opened.Opened.{Opened}
 use Rattle.buck_ledger.specs.declared.task.AppraiseTask.{AppraiseTask}
 use Rattle.buck_ledger.specs.declared.task.CompareTask.{CompareTask}
 use Rattle.buck_ledger.specs.Appraisal.{IsAppraisal}
+use Rattle.buck_ledger.specs.Text.{appraisal_text}
 use Rattle.buck_ledger.specs.Comparison.{AreBothLawful, IsCompareFault, SaysTwo}
 
--- an appraisal over files: lawful journals of the instruction, of at most 1,000,000 postings together, and an owner's
--- instruction that may stand beside it
+-- the text of an appraisal over files: of lawful journals of the instruction, of at most 1,000,000 postings together,
+-- under an owner's instruction that may stand beside it
 pub record IsAppraised (task : AppraiseTask) (apt : Option (List ℕ)) (files : List (Option (List ℕ)))
-    (own : Option (List ℕ)) : Type 0 where
+    (own : Option (List ℕ)) (text : List ℕ) : Type 0 where
   pub instruction : InstructionParts
   pub journals : List JournalParts
   pub owner : InstructionParts
@@ -38,6 +39,7 @@ pub record IsAppraised (task : AppraiseTask) (apt : Option (List ℕ)) (files : 
   pub shape : HasShapeOf instruction owner
   pub lawful : AreLawful instruction journals
   pub is_appraisal : IsAppraisal owner (postings_of journals) appraisal
+  pub text_is : text ≡ appraisal_text instruction appraisal
 
 -- an owner's instruction may stand beside the instruction
 abbrev pub HasOwner : Option (List ℕ) → InstructionParts → Type 0
@@ -56,7 +58,7 @@ IsAppraiseFault task apt files own fault =
 -- the text of an appraisal, or why there is none
 abbrev pub AnswersAppraise : AppraiseTask → Option (List ℕ) → List (Option (List ℕ)) → Option (List ℕ) × ℕ
     → Result (List ℕ) TermsFault → Type 0
-AnswersAppraise task apt files own (Ok text) = IsAppraised task apt files own.0
+AnswersAppraise task apt files own (Ok text) = IsAppraised task apt files own.0 text
 AnswersAppraise task apt files own (Err fault) = IsAppraiseFault task apt files own fault
 
 pub record OpensOwn {O F : Type 0} (opens : O → List ℕ → Option F → O → Type 0) (old new : O) (apt : List ℕ)
