@@ -1,0 +1,13 @@
+-- What stands in a text.
+use Rattle.std.specs.Prelude.{◌≡◌, ◌++◌, ℕ, List}
+use Rattle.buck_apt.specs.Settings.{own_numbers}
+use Rattle.buck_rule.specs.declared.named.NamedRule.{NamedRule}
+use Rattle.buck_sweep.specs.declared.combination.Combination.{Combination}
+
+-- a rule with the instruction's own numbers
+abbrev pub own_run : NamedRule → Combination
+own_run rule = record { rule = rule; settings = own_numbers }
+
+-- some bytes stand in a text
+abbrev pub StandsIn : List ℕ → List ℕ → Type 0
+StandsIn bytes text = (before : List ℕ) × (after : List ℕ) × (text ≡ before ++ (bytes ++ after))

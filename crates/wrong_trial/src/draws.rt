@@ -1,0 +1,168 @@
+//! Wrong bodies of orders that are drawn by chance.
+ghost use Rattle.std.specs.Prelude.{◌≡◌, ◌≢◌, [], ◌∷◌, map};
+ghost use Rattle.std.specs.Arc.{arc_value};
+ghost use Rattle.buck_draws.specs.Draws.{state_behind};
+
+use buck_draws::{Draws, below, order_from, shuffle, starts_of};
+use buck_stem::Stem;
+use rand_core::SeedableRng;
+use rand_xoshiro::SplitMix64;
+use std::alloc::Global;
+use std::sync::Arc;
+
+/// The number is the remainder of the next word: 535 of the first word of seed 0.
+pub fn below_by_the_remainder() {
+    let mut random = SplitMix64::seed_from_u64(0);
+    let right = below(&mut random, 1000);
+    let wrong = 535;
+    prove!(right != wrong);
+}
+
+/// The number is made of the state before it is mixed: 618 whatever the seed.
+pub fn below_by_the_state_alone() {
+    let mut random = SplitMix64::seed_from_u64(0);
+    let right = below(&mut random, 1000);
+    let wrong = 618;
+    prove!(right != wrong);
+}
+
+/// The generator stays where it was, and the same number is drawn again.
+pub fn below_keeps_the_generator() {
+    let mut random = SplitMix64::seed_from_u64(0);
+    let _first = below(&mut random, 1000);
+    let right = below(&mut random, 1000);
+    let wrong = 883;
+    prove!(right != wrong);
+}
+
+/// The shuffle goes from the first place up: of 1, 2, 3, 4 it begins with 4, from seed 0.
+pub fn shuffle_from_the_first_place_up() {
+    let mut random = SplitMix64::seed_from_u64(0);
+    let mut list: [u8; 4] = [1, 2, 3, 4];
+    shuffle(&mut random, &mut list);
+    let right = list[0];
+    let wrong = 4;
+    prove!(right != wrong);
+}
+
+/// No element may stay where it is, as in Sattolo's shuffle: of 1, 2, 3, 4 it begins with 2, from seed 0.
+pub fn shuffle_leaves_nothing_in_its_place() {
+    let mut random = SplitMix64::seed_from_u64(0);
+    let mut list: [u8; 4] = [1, 2, 3, 4];
+    shuffle(&mut random, &mut list);
+    let right = list[0];
+    let wrong = 2;
+    prove!(right != wrong);
+}
+
+/// A number is drawn for the first place too, so that the next number is another.
+pub fn shuffle_draws_for_the_first_place_too() {
+    let mut random = SplitMix64::seed_from_u64(0);
+    let mut list: [u8; 1] = [7];
+    shuffle(&mut random, &mut list);
+    let right = below(&mut random, 1000);
+    let wrong = 431;
+    prove!(right != wrong);
+}
+
+/// A stem is left out of an order.
+pub fn order_loses_a_stem(alloc: Global, state: u64, lists: &[Vec<Arc<Stem>>], file: usize) {
+    if let Ok(right) = order_from(alloc, state, lists) {
+        if file < lists.len() && file < right.len() {
+            let is_shorter = right[file].len() < lists[file].len();
+            prove!(!is_shorter);
+        }
+    }
+}
+
+/// A stem is there twice, and another is lost.
+pub fn order_repeats_a_stem(alloc: Global, lists: &[Vec<Arc<Stem>>], one: &Stem, other: &Stem)
+    requires lists { map (λ l. map arc_value l.items) lists.now ≡ (one.now ∷ other.now ∷ []) ∷ [] }
+    requires differ { one.now ≢ other.now }
+{
+    if let Ok(right) = order_from(alloc, 7, lists) {
+        if right.len() == 1 && right[0].len() == 2 {
+            let is_wrong = right[0][0].same(&right[0][1]);
+            prove!(!is_wrong);
+        }
+    }
+}
+
+/// A stem is moved to the list of another file.
+pub fn order_over_all_files_at_once(
+    alloc: Global,
+    state: u64,
+    lists: &[Vec<Arc<Stem>>],
+    one: &Stem,
+    other: &Stem,
+)
+    requires lists { map (λ l. map arc_value l.items) lists.now ≡ (one.now ∷ []) ∷ (other.now ∷ []) ∷ [] }
+    requires differ { one.now ≢ other.now }
+{
+    if let Ok(right) = order_from(alloc, state, lists) {
+        if right.len() == 2 && right[0].len() == 1 {
+            let is_wrong = right[0][0].same(other);
+            prove!(!is_wrong);
+        }
+    }
+}
+
+/// The generator begins anew with each list: from state 0 the first of two stems stays the first in the list of the
+/// first file, and not in that of the second.
+pub fn order_of_each_file_from_the_same_state(
+    alloc: Global,
+    lists: &[Vec<Arc<Stem>>],
+    one: &Stem,
+    other: &Stem,
+)
+    requires lists { map (λ l. map arc_value l.items) lists.now
+        ≡ (one.now ∷ other.now ∷ []) ∷ (one.now ∷ other.now ∷ []) ∷ [] }
+    requires differ { one.now ≢ other.now }
+{
+    if let Ok(right) = order_from(alloc, 0, lists) {
+        if right.len() == 2 && right[1].len() == 2 {
+            let is_wrong = right[1][0].same(one);
+            prove!(!is_wrong);
+        }
+    }
+}
+
+/// Each draw begins at the seed, so that all orders are the same.
+pub fn starts_all_at_the_seed(
+    alloc: Global,
+    lists: &[Vec<Arc<Stem>>],
+    one: &Arc<Stem>,
+    other: &Arc<Stem>,
+)
+    requires { map (λ l. l.items) lists.now ≡ (one.now ∷ other.now ∷ []) ∷ [] }
+{
+    if let Ok(starts) = starts_of(alloc, &Draws { number: 2, seed: 0 }, lists) {
+        if starts.len() == 2 {
+            let right = starts[1];
+            let wrong = 0;
+            prove!(right != wrong);
+        }
+    }
+}
+
+/// The first draw begins where a draw from the seed ends.
+pub fn starts_behind_the_seed(alloc: Global, lists: &[Vec<Arc<Stem>>], wrong: u64)
+    requires wrong { wrong ≡ state_behind 0 (map (λ l. l.items) lists.now) }
+    requires differ { wrong ≢ 0 }
+{
+    if let Ok(starts) = starts_of(alloc, &Draws { number: 2, seed: 0 }, lists) {
+        if starts.len() == 2 {
+            let right = starts[0];
+            prove!(right != wrong);
+        }
+    }
+}
+
+/// One draw too few is made.
+pub fn starts_without_the_last_draw(alloc: Global, lists: &[Vec<Arc<Stem>>]) {
+    if let Ok(starts) = starts_of(alloc, &Draws { number: 3, seed: 0 }, lists) {
+        let right = starts.len();
+        let wrong = 2;
+        prove!(right != wrong);
+    }
+}
