@@ -1,3 +1,4 @@
 mod Orders
 mod Tables
 mod Journals
+mod Means

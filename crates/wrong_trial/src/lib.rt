@@ -14,3 +14,4 @@ pub mod own;
 pub mod served;
 pub mod targets;
 pub mod trials;
+pub mod tuning;
