@@ -1,5 +1,5 @@
 -- What stands in a table of trials, and which fault is told.
-use Rattle.std.proofs.Common.{◌≡◌, ◌≢◌, ℕ, zero, suc, List, [], ◌∷◌, ◌++◌, inl, inr, Option, Some, None, Result, Ok, Err, codes, sym, ap, subst, ◌∙◌, append_assoc, append-nil, arith}
+use Rattle.std.proofs.Common.{◌≡◌, ◌≢◌, ◌⊎◌, ℕ, zero, suc, List, [], ◌∷◌, ◌++◌, inl, inr, Option, Some, None, Result, Ok, Err, codes, sym, ap, subst, ◌∙◌, append_assoc, append-nil, arith}
 use Rattle.std.specs.Prelude.{slice_get}
 use Rattle.std.specs.declared.sync.Arc.{Arc}
 use Rattle.std.specs.declared.vec.Vec.{Vec}
@@ -14,13 +14,16 @@ use Rattle.buck_book.specs.History.{HistoryParts}
 use Rattle.buck_book.specs.Replies.{stems_at}
 use Rattle.buck_draws.specs.declared.orders.Draws.{Draws}
 use Rattle.buck_rule.specs.declared.named.NamedRule.{NamedRule}
+use Rattle.buck_engine.specs.declared.fault.EngineFault.{EngineFault}
+use Rattle.buck_engine.specs.declared.fault.EngineFault.TheVariants.{Full}
+use Rattle.buck_engine.specs.fleet.Running.{HaveTooMany, IsFleetFault}
 use Rattle.buck_sweep.specs.declared.combination.Combination.{Combination}
 use Rattle.buck_sweep.specs.Sweep.{AreLines}
 use Rattle.buck_sweep.specs.Table.{IsLine}
 use Rattle.buck_terms.specs.declared.fault.TermsFault.{TermsFault}
-use Rattle.buck_terms.specs.declared.fault.TermsFault.TheVariants.{Targets}
+use Rattle.buck_terms.specs.declared.fault.TermsFault.TheVariants.{Run, Targets}
 use Rattle.buck_terms.specs.Targets.{HasTargets}
-use Rattle.buck_trial.specs.Inputs.{IsInputFault, SaysInput}
+use Rattle.buck_trial.specs.Inputs.{IsTargetsStop, SaysInput}
 use Rattle.buck_trial.specs.Trial.{AreAllDrawn, AreSpreads, IsBestFor, IsTrial, IsTrialLine, IsTrialRun, drawn_head, starts_of}
 use Rattle.wrong_trial.specs.Texts.{StandsIn, own_run}
 
@@ -31,7 +34,7 @@ table : (cs : List Combination) (draws : Option Draws) (apt : Option (List ℕ))
     → IsTrial cs draws apt stms targets text
 table cs draws apt stms targets old text (Ok v) u run none well =
     subst (λ (t : List ℕ). IsTrial cs draws apt stms targets t)
-    (sym (run.run.2 ∙ ap (λ (o : List ℕ). o ++ run.run.0) none)) run.run.1
+    (sym (run.2 ∙ ap (λ (o : List ℕ). o ++ run.0) none)) run.1
 table cs draws apt stms targets old text (Err fault) u run none well = absurd (cc well)
 
 -- the line at a place
@@ -123,8 +126,11 @@ pub targets_not_told : (cs : List Combination) (draws : Option Draws) (apt : Opt
 targets_not_told cs draws apt stm targets old new r why run is refused =
     told targets
     (subst (λ (x : Result (Unit {0}) TermsFault). IsTrialRun cs draws apt (Some stm ∷ []) targets old new x) is
-    run).run.0 where
-      told : (targets : Option (Option (List ℕ) × ℕ)) → IsInputFault apt (Some stm ∷ []) targets (Targets why) → ⊥
+    run).0.cause where
+      told : (targets : Option (Option (List ℕ) × ℕ))
+          → ((fault : EngineFault) × (Targets why ≡ Run fault) × IsFleetFault apt (Some stm ∷ []) fault
+          × (fault ≡ Full → HaveTooMany (Some stm ∷ [])))
+          ⊎ IsTargetsStop apt (Some stm ∷ []) targets (Targets why) → ⊥
       told targets (inl (fault, named, fleet, full)) = absurd (cc named)
       told None (inr stop) = stop
       told (Some file) (inr stop) = refused (stems_at stop.lists 0) (stop.stms_say 0 (omega arith)).1
