@@ -5,3 +5,4 @@ pub mod Passed
 pub mod Stopped
 pub mod Both
 pub mod Answered
+pub mod Texts

@@ -1,5 +1,5 @@
 //! `run_appraise`: from the bytes of an instruction, journals and an owner's instruction to an appraisal.
-ghost use Rattle.std.specs.Prelude.{◌≡◌, ◌≤◌, OnOk, length, map};
+ghost use Rattle.std.specs.Prelude.{◌≡◌, ◌≤◌, IfOk, length, map};
 ghost use Rattle.buck_record.specs.Reading.{listed};
 ghost use Rattle.buck_book.specs.declared.posting.TheConstants.{MOST_POSTINGS};
 ghost use Rattle.buck_figures.specs.Journals.{postings_of};
@@ -9,6 +9,7 @@ ghost use Rattle.buck_terms.specs.Telling.{WritesTerms};
 ghost use Rattle.buck_ledger.specs.declared.appraisal.Appraisal.{Appraisal};
 ghost use Rattle.buck_ledger.specs.Appraisal.{IsAppraisal};
 ghost use Rattle.buck_ledger.specs.Serving.{AnswersAppraise};
+ghost use Rattle.buck_ledger.specs.Text.{appraisal_text};
 
 use crate::appraisal::appraise;
 use crate::lines::appraisal_text;
@@ -28,7 +29,8 @@ fn text_of(alloc: Global, several: &Journals, own: Instruction) -> Result<Vec<u8
     requires few { length (postings_of several.now.journals.items) ≤ MOST_POSTINGS }
     requires shape { HasShapeOf several.now.instruction.value own }
     requires lawful { AreLawful several.now.instruction.value several.now.journals.items }
-    ensures { OnOk result ((p : Appraisal) × IsAppraisal own (postings_of several.now.journals.items) p) }
+    ensures { IfOk result (λ text. (p : Appraisal) × IsAppraisal own (postings_of several.now.journals.items) p
+        × (text.items ≡ appraisal_text several.now.instruction.value p)) }
 {
     let appraisal = appraise(alloc, own, several.journals.as_slice())?;
     let text = appraisal_text(alloc, &several.instruction, &appraisal)?;

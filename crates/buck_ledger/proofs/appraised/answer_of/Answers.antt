@@ -19,14 +19,21 @@ pub returns-in_err-check_lawful : goal.returns-in_err-check_lawful
 returns-in_err-check_lawful g c =
     let held = g.R.Read.remaining in
     let files = c.args.files in
+    let i = c.in_ok-several.several.instruction.value in
+    let shown : c.deref.result.now ≡ i = search rules in
     let js = c.in_ok-several.several.journals.items in
     replay_stops c.args.task.now (held files.apt) (map held files.journals.items) (held files.own.0, files.own.1)
-    c.in_ok-several.several.instruction.value js c.in_err-check_lawful.field-0.0
+    i js c.in_err-check_lawful.field-0.0
     c.from_residual-in_err-check_lawful.result c.from_residual-in_err-check_lawful.ensures.1
     c.in_ok-several.ensures.instruction
     (subst (λ (l : _). HaveJournals (map held l) js) c.as_mut_slice-journals.ensures.value
     c.in_ok-several.ensures.journals)
-    c.in_ok-several.ensures.few c.in_err-check_lawful.ensures.refused
+    c.in_ok-several.ensures.few (
+      c.in_ok-own.own,
+      c.in_ok-own.ensures.ok,
+      subst (λ (t : InstructionParts). HasShapeOf t c.in_ok-own.own) shown c.in_ok-own.ensures.shape,
+    )
+    c.in_err-check_lawful.ensures.refused
 
 pub returns : goal.returns
 returns g c =
@@ -40,6 +47,6 @@ returns g c =
     c.in_ok-several.ensures.instruction
     (subst (λ (l : _). HaveJournals (map held l) js) c.as_mut_slice-journals.ensures.value
     c.in_ok-several.ensures.journals)
-    c.in_ok-own.ensures.ok
+    c.in_ok-several.ensures.few c.in_ok-own.ensures.ok
     (subst (λ (t : InstructionParts). HasShapeOf t c.in_ok-own.own) shown c.in_ok-own.ensures.shape)
     c.in_ok-check_lawful.ensures.lawful c.in_ok-text_of.ensures

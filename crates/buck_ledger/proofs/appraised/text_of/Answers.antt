@@ -2,12 +2,17 @@ use Rattle.std.proofs.Common.{◌≡◌, List, subst, rules}
 use Rattle.buck_journal.specs.reading.Journal.{JournalParts}
 use Rattle.buck_figures.specs.Journals.{postings_of}
 use Rattle.buck_ledger.specs.Appraisal.{IsAppraisal}
+use Rattle.buck_ledger.specs.Text.{appraisal_text}
 use Rattle.buck_ledger.proofs.appraised.text_of.Goals as goal
 
 pub returns : goal.returns
 returns c =
-    let js : c.as_slice.result.now ≡ c.args.several.now.journals.items = search rules in (
+    let js : c.as_slice.result.now ≡ c.args.several.now.journals.items = search rules in
+    let text : c.in_ok-text.text.items
+    ≡ appraisal_text c.args.several.now.instruction.value c.in_ok-appraisal.appraisal =
+    search rules in (
       c.in_ok-appraisal.appraisal,
       subst (λ (l : List JournalParts). IsAppraisal c.args.own (postings_of l) c.in_ok-appraisal.appraisal) js
           c.in_ok-appraisal.ensures.appraisal,
+      text,
     )

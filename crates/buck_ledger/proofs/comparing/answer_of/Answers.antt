@@ -14,7 +14,8 @@ returns-in_err-check_one g c =
     let other = c.index-other.result.now in
     let says =
     says_two held c.own.result apt files i js one other c.own.ensures c.in_ok-several.ensures.instruction
-    c.in_ok-several.ensures.journals c.requires.two c.index-one.ensures c.index-other.ensures in
+    c.in_ok-several.ensures.journals c.requires.two c.in_ok-several.ensures.few c.index-one.ensures
+    c.index-other.ensures in
     first_stops c.args.task.now apt (map held files) i c.in_ok-first.first.value one other c.in_err-check_one.field-0.0
     c.from_residual-in_err-check_one.result c.from_residual-in_err-check_one.ensures.1 says c.in_ok-first.ensures
     c.in_err-check_one.ensures.refused
@@ -30,7 +31,8 @@ returns-in_err-check_one-2 g c =
     let other = c.index-other.result.now in
     let says =
     says_two held c.own.result apt files i js one other c.own.ensures c.in_ok-several.ensures.instruction
-    c.in_ok-several.ensures.journals c.requires.two c.index-one.ensures c.index-other.ensures in
+    c.in_ok-several.ensures.journals c.requires.two c.in_ok-several.ensures.few c.index-one.ensures
+    c.index-other.ensures in
     second_stops c.args.task.now apt (map held files) i c.in_ok-first.first.value c.in_ok-second.second.value one other
     c.in_err-check_one-2.field-0.0 c.from_residual-in_err-check_one-2.result
     c.from_residual-in_err-check_one-2.ensures.1 says c.in_ok-first.ensures c.in_ok-second.ensures
@@ -47,7 +49,8 @@ returns g c =
     let other = c.index-other.result.now in
     let says =
     says_two held c.own.result apt files i js one other c.own.ensures c.in_ok-several.ensures.instruction
-    c.in_ok-several.ensures.journals c.requires.two c.index-one.ensures c.index-other.ensures in
+    c.in_ok-several.ensures.journals c.requires.two c.in_ok-several.ensures.few c.index-one.ensures
+    c.index-other.ensures in
     compared_so c.args.task.now apt (map held files) i c.in_ok-first.first.value c.in_ok-second.second.value one other
     c.in_ok-text_of.field-0.items says c.in_ok-first.ensures c.in_ok-second.ensures c.in_ok-check_one.ensures.lawful
     c.in_ok-check_one-2.ensures.lawful
