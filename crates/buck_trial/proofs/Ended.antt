@@ -70,12 +70,12 @@ terms_run lists IsText Answers old new (Ok u) text stop h = (h.0, text h.0 h.1, 
 terms_run lists IsText Answers old new (Err Write) text stop h = (h.0, text h.0 h.1, h.2)
 terms_run lists IsText Answers old new (Err fault) text stop h = (stop fault h.0, h.1)
 
-abbrev IsNoWriteTerms : TermsFault → Type 0
+abbrev pub IsNoWriteTerms : TermsFault → Type 0
 IsNoWriteTerms (Run fault) = IsNoWrite fault
 IsNoWriteTerms _ = Unit {0}
 
 -- nothing is written where the files come to nothing
-no_terms : (Answers : Result (List ℕ) TermsFault → Type 0) (old : Option (List ℕ)) (fault : TermsFault)
+pub no_terms : (Answers : Result (List ℕ) TermsFault → Type 0) (old : Option (List ℕ)) (fault : TermsFault)
     → IsNoWriteTerms fault → Answers (Err fault) → WritesTerms Answers old old (Err fault)
 no_terms Answers old (Run Write) other a = absurd other
 no_terms Answers old fault other a = (a, Keeps-refl old)

@@ -13,3 +13,5 @@ pub mod ReadLemmas
 pub mod RunLemmas
 pub mod Spreads
 pub mod Tuned
+pub mod Owning
+pub mod Opening

@@ -29,7 +29,7 @@ regroup : (a b c d e f z : List ℕ)
 regroup a b c d e f z = sym (simp append_assoc)
 
 -- a line of a sweep ends in a line feed
-line_ends : (rule : NamedRule) (h : HistoryParts) (line : List ℕ) → IsLine rule h line
+pub line_ends : (rule : NamedRule) (h : HistoryParts) (line : List ℕ) → IsLine rule h line
     → (own : List ℕ) × (line ≡ own ++ codes "\n")
 unfolding line_of
 line_ends rule h line is =

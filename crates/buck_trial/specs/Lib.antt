@@ -4,5 +4,6 @@ pub mod Trial
 pub mod WishLine
 pub mod Wishes
 pub mod Tune
+pub mod Owned
 pub mod Serving
 pub mod inner

@@ -4,3 +4,4 @@ pub mod Running
 pub mod Worth
 pub mod Lines
 pub mod Asking
+pub mod Owned

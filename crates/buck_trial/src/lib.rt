@@ -1,16 +1,17 @@
 //! What a harvest would come to, found by trial before a tree is cut.
 //!
 //! [`serve_trial`] compares rules, periods and limits as a sweep does, with other targets than the instruction's, and
-//! over orders of the stems that are drawn by chance. [`serve_wishes`] finds what each target costs: a run with each in
-//! its turn moved half way to what the class has unsteered. [`serve_tune`] finds base prices that such stems ask for.
-//! [`run_trial`], [`run_wishes`] and [`run_tune`] are the same over open files, [`TrialTask`], [`WishesTask`] and
-//! [`TuneTask`] what they are asked.
+//! over orders of the stems that are drawn by chance; [`serve_owned`] adds what an owner pays. [`serve_wishes`] finds
+//! what each target costs: a run with each in its turn moved half way to what the class has unsteered. [`serve_tune`]
+//! finds the base prices that such stems ask for. [`run_trial`], [`run_owned`], [`run_wishes`] and [`run_tune`] are the
+//! same over open files, [`TrialTask`], [`OwnedTask`], [`WishesTask`] and [`TuneTask`] what they are asked.
 #![tactic(auto)]
 
 mod asking;
 mod light;
 mod moved;
 mod outcome;
+mod owned;
 mod parts;
 mod reading;
 mod serving;
@@ -24,9 +25,10 @@ mod wishes;
 pub use buck_draws::Draws;
 pub use buck_terms::TermsFault;
 pub use moved::moved_targets;
+pub use owned::{OwnedFiles, run_owned, serve_owned};
 pub use reading::Opened;
 pub use serving::{serve_trial, serve_wishes};
-pub use task::{TrialTask, TuneTask, WishesTask};
+pub use task::{OwnedTask, TrialTask, TuneTask, WishesTask};
 pub use trial::run_trial;
 pub use tune::{run_tune, serve_tune, tuned_prices};
 pub use wishes::run_wishes;

@@ -18,7 +18,7 @@ const DRAWN: &[u8] =
     b",least_degree_min,least_degree_mean,least_degree_max,cost_min,cost_mean,cost_max";
 
 /// A line without its line feed.
-fn open_line(line: &[u8]) -> &[u8]
+pub(crate) fn open_line(line: &[u8]) -> &[u8]
     ensures { (own : List ℕ) → line.now ≡ own ++ codes "\n" → result.now ≡ own }
 {
     match line.split_last() {
@@ -49,7 +49,7 @@ pub(crate) fn put_first(
 
 /// What steering cost of what the best cuttings are worth, in ten-thousandths, to the nearest; 0 where they are worth
 /// nothing.
-fn cost_of(best: u128, at_base: u128) -> u128
+pub(crate) fn cost_of(best: u128, at_base: u128) -> u128
     requires { best < 2 ^ 100 }
     ensures cost { result ≡ rate_of best at_base }
     ensures low { result ≤ 10000 }

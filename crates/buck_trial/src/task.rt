@@ -21,6 +21,15 @@ pub struct TrialTask<'a> {
     pub threads: Option<u8>,
 }
 
+/// What the words of the command line ask of such a sweep, whose lines also say what an owner pays.
+#[derive(Drop)]
+pub struct OwnedTask<'a> {
+    /// All else.
+    pub trial: TrialTask<'a>,
+    /// The name of the file of the owner's instruction.
+    pub own: &'a str,
+}
+
 /// What the words of the command line ask of wishes.
 #[derive(Drop)]
 pub struct WishesTask<'a> {

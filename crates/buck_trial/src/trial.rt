@@ -33,7 +33,7 @@ pub(crate) struct Drawn {
 
 /// A run to be made: of a combination, in the order of the draw that begins at a state.
 #[derive(Clone, Copy)]
-struct Planned<'a> {
+pub(crate) struct Planned<'a> {
     combination: &'a Combination,
     start: u64,
 }
@@ -99,7 +99,7 @@ fn drawn_of(
 }
 
 /// The lines of combinations, with the runs in at most so many threads at once.
-fn lines_in_parts<T: Threads + Sync>(
+pub(crate) fn lines_in_parts<T: Threads + Sync>(
     rt: &T,
     alloc: Global,
     threads: usize,
@@ -140,7 +140,7 @@ fn plan_draws<'a>(
 }
 
 /// The runs of all draws: for the first combination all draws, and then for the next.
-fn plan_all<'a>(
+pub(crate) fn plan_all<'a>(
     alloc: Global,
     combinations: &'a [Combination],
     starts: &[u64],
@@ -155,7 +155,7 @@ fn plan_all<'a>(
 }
 
 /// What the runs of all draws came to, done in at most so many threads at once.
-fn drawn_in_parts<T: Threads + Sync>(
+pub(crate) fn drawn_in_parts<T: Threads + Sync>(
     rt: &T,
     alloc: Global,
     threads: usize,
@@ -196,7 +196,7 @@ pub(crate) fn all_starts(
 }
 
 /// What the best cuttings at base prices are worth, where there are draws that need it.
-fn best_of(alloc: Global, input: &Input, starts: &[u64]) -> Result<u128, Memory>
+pub(crate) fn best_of(alloc: Global, input: &Input, starts: &[u64]) -> Result<u128, Memory>
     requires room { stems_in_all input.now.lists.items ≤ MOST_POSTINGS }
     ensures best { IfOk result (IsBestFor input.now.instruction input.now.lists.items starts.now) }
     ensures low { IfOk result (λ best. best < 2 ^ 100) }
@@ -211,10 +211,10 @@ fn best_of(alloc: Global, input: &Input, starts: &[u64]) -> Result<u128, Memory>
 /// What the runs of some combinations came to: a line of each, and what all of its draws came to, one combination after
 /// the other; and what the best cuttings are worth, where there are draws.
 #[derive(Clone, Copy)]
-struct Made<'a> {
-    lines: &'a [Vec<u8>],
-    drawn: &'a [Drawn],
-    best: u128,
+pub(crate) struct Made<'a> {
+    pub lines: &'a [Vec<u8>],
+    pub drawn: &'a [Drawn],
+    pub best: u128,
 }
 
 /// The table of some combinations, given what their runs came to.

@@ -1,5 +1,5 @@
 //! Prices tuned on stems.
-ghost use Rattle.std.specs.Prelude.{◌≡◌, ◌<◌, ◌≤◌, ◌*◌, ◌^◌, All, IfErr, IfOk, length, map, slice_index};
+ghost use Rattle.std.specs.Prelude.{◌≡◌, ◌≤◌, All, IfErr, IfOk, length, map, slice_index};
 ghost use Rattle.buck_value.specs.Sheet.{base_prices};
 ghost use Rattle.buck_book.specs.History.{prices_at, version_of};
 ghost use Rattle.buck_book.specs.Posting.{planned_version};
