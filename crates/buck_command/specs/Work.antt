@@ -8,12 +8,13 @@ use Rattle.buck_engine.specs.run.Showing.{RunsView}
 use Rattle.buck_engine.specs.tie.Serving.{RunsCheck}
 use Rattle.buck_live.specs.Serving.{RunsLive}
 use Rattle.buck_sweep.specs.Serving.{RunsSweep}
+use Rattle.buck_trial.specs.Owned.{RunsOwned}
 use Rattle.buck_trial.specs.Serving.{RunsTrial, RunsTune, RunsWishes}
 use Rattle.buck_ledger.specs.Serving.{RunsAppraise, RunsCompare}
 use Rattle.buck_terms.specs.declared.fault.TermsFault.{TermsFault}
 use Rattle.buck_terms.specs.declared.fault.TermsFault.TheVariants.{Run, Targets, Own}
 use Rattle.buck_command.specs.declared.working.Work.{Work}
-use Rattle.buck_command.specs.declared.working.Work.TheVariants.{Plain, Buck, Fleet, Check, View, Live, Sweep, Trial, Wishes, Tune, Appraise, Compare}
+use Rattle.buck_command.specs.declared.working.Work.TheVariants.{Plain, Buck, Fleet, Check, View, Live, Sweep, Trial, Owned, Wishes, Tune, Appraise, Compare}
 
 -- work that ends as a run may that has no file beside the instruction
 abbrev pub Ends : (Result (Unit {0}) EngineFault → Type 0) → Result (Unit {0}) TermsFault → Type 0
@@ -43,6 +44,8 @@ DoesWork opens makes held contents start end input Unread (Sweep task) old new o
     Ends (RunsSweep opens held start end task old new) outcome
 DoesWork opens makes held contents start end input Unread (Trial task) old new outcome =
     RunsTrial opens held start end task old new outcome
+DoesWork opens makes held contents start end input Unread (Owned task) old new outcome =
+    RunsOwned opens held start end task old new outcome
 DoesWork opens makes held contents start end input Unread (Wishes task) old new outcome =
     RunsWishes opens held start end task old new outcome
 DoesWork opens makes held contents start end input Unread (Tune task) old new outcome =

@@ -1,8 +1,8 @@
 //! The commands with their options and files, as `clap` reads them and tells of them.
 use crate::commands::Word::{
     AnyStms, Apt, Draws, Explain, First, InTurn, Journal, Journals, Limit, LimitEach, Limits, Line,
-    Out, Own, Period, PeriodEach, Periods, Quiet, Rule, RuleOfPrices, RuleOfTuning, RuleOfWishes,
-    Rules, Second, Seed, Stm, Stms, Table, Targets, Threads,
+    Out, Own, OwnToo, Period, PeriodEach, Periods, Quiet, Rule, RuleOfPrices, RuleOfTuning,
+    RuleOfWishes, Rules, Second, Seed, Stm, Stms, Table, Targets, Threads,
 };
 use crate::help;
 use buck_rule::NamedRule;
@@ -46,6 +46,8 @@ enum Word {
     Second,
     /// The contract of an owner.
     Own,
+    /// The same beside stems.
+    OwnToo,
     Table,
     Stm,
     Stms,
@@ -82,7 +84,8 @@ static COMMANDS: [Named; 13] = [
         about: "Compares rules, periods and limits on the same stems",
         help: help::SWEEP,
         words: &[
-            Rules, Periods, Limits, Targets, Draws, Seed, Threads, Quiet, Apt, Stms, Explain,
+            Rules, Periods, Limits, Targets, OwnToo, Draws, Seed, Threads, Quiet, Apt, Stms,
+            Explain,
         ],
     },
     Named {
@@ -242,6 +245,7 @@ fn arg<'a>(alloc: Global, word: Word) -> Arg<'a> {
         PeriodEach => option(alloc, "period", "LIST", help::COMPARED_PERIODS),
         LimitEach => option(alloc, "limit", "LIST", help::COMPARED_LIMITS),
         Targets => option(alloc, "targets", "FILE", help::TARGETS),
+        OwnToo => option(alloc, "own", "OWN", help::OWN),
         Draws => option(alloc, "draws", "N", help::DRAWS),
         Seed => option(alloc, "seed", "S", help::SEED),
         Out => option(alloc, "journal", "OUT", help::OUT),

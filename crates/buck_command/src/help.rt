@@ -133,10 +133,17 @@ its harvester, and six columns more have the least, the mean and the greatest of
 what these came to: a lead that is less than they differ may be chance. The same
 seed gives the same orders, for each line the same ones.
 
+OWN is the contract of an owner, as for appraise. Last in each line stands what
+it pays for what was cut, what the best cuttings would bring, how many logs it
+doesn't buy, and what is lost of the best in ten-thousandths; with --draws the
+least, the mean and the greatest loss too. Compare losses between instructions
+with other prices: each cost is at its own prices.
+
 Examples:
   buckfleet sweep --rule linear --period 1,5,20 morning.apt morning_1.stm
   buckfleet sweep --rule steady --rule step morning.apt morning_1.stm
   buckfleet sweep --targets tuesday.txt --draws 20 morning.apt morning_1.stm
+  buckfleet sweep --own mill.apt --rule root --limit 20,40 tuned.apt stand.stm
 
 Exit statuses:
   0  the table was printed
@@ -410,6 +417,10 @@ for each journal; else the instruction's own";
 
 /// Which targets are put in.
 pub(crate) const TARGETS: &str = "A file with the targets, in the place of the instruction's";
+
+/// Whose contract is paid by.
+pub(crate) const OWN: &str = "The contract of an owner, as an instruction file, by which what
+is cut is paid; the last file that is read";
 
 /// How many orders are drawn.
 pub(crate) const DRAWS: &str = "How many orders of the stems are drawn by chance, 1 to 1000;

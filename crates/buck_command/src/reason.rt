@@ -309,6 +309,13 @@ impl<'a, A: Known> Inquest<'a, A> {
         Ok(Some(format!(in alloc; "{stems} stems, at most 1000000 wanted\n")?))
     }
 
+    /// The number of a file of targets, which comes behind the stem files.
+    fn targets_file(&self) -> usize {
+        self.subject
+            .others
+            .saturating_add(self.subject.stem_files())
+    }
+
     /// The number of the last file.
     fn last_file(&self) -> usize {
         self.subject.names.len().saturating_sub(1)
@@ -338,7 +345,7 @@ impl<'a, A: Known> Inquest<'a, A> {
 
     /// Which of the targets of the last file may not be put in.
     fn wrong_targets(&self, alloc: Global) -> Result<Option<String>, Memory> {
-        let file = self.last_file();
+        let file = self.targets_file();
         let (Some(instruction), Some(bytes)) = (self.instruction(alloc), self.bytes(file)) else {
             return Ok(None);
         };
@@ -353,13 +360,13 @@ impl<'a, A: Known> Inquest<'a, A> {
         Ok(Some(format!(in alloc; "{name}: {wrong}\n")?))
     }
 
-    /// Why a file of targets, which is the last one, is refused.
+    /// Why a file of targets is refused.
     fn targets_reason(
         &self,
         alloc: Global,
         fault: &TargetsFault,
     ) -> Result<Option<String>, Memory> {
-        let name = Shown(self.name(self.last_file()).as_bytes());
+        let name = Shown(self.name(self.targets_file()).as_bytes());
         match fault {
             TargetsFault::Count => Ok(Some(format!(in alloc;
                 "{name}: one list of targets (918 1) for each assortment, with a number for each class, wanted\n"

@@ -5,6 +5,7 @@ use buck_apt::Settings;
 use buck_engine::Task;
 use buck_ledger::AppraiseTask;
 use buck_rule::NamedRule;
+use buck_trial::OwnedTask;
 use std::alloc::{AllocError, Global};
 
 /// What some work is about.
@@ -63,6 +64,20 @@ impl<'a> Subject<'a> {
             subject.names.push(targets)?;
             subject.behind = 1;
         }
+        Ok(subject)
+    }
+
+    /// The same with the contract of an owner behind them.
+    fn of_owned(alloc: Global, task: &'a OwnedTask<'a>) -> Result<Subject<'a>, AllocError> {
+        let trial = &task.trial;
+        let mut subject = Subject::of_stems(
+            alloc,
+            trial.apt,
+            trial.stms.as_slice(),
+            trial.targets,
+        )?;
+        subject.names.push(task.own)?;
+        subject.behind = subject.behind.saturating_add(1);
         Ok(subject)
     }
 
@@ -139,6 +154,7 @@ impl<'a> Subject<'a> {
             Work::Trial(task) => {
                 Subject::of_stems(alloc, task.apt, task.stms.as_slice(), task.targets)
             }
+            Work::Owned(task) => Subject::of_owned(alloc, task),
             Work::Wishes(task) => Ok(Subject {
                 settings: Some(&task.settings),
                 ..Subject::of_stems(alloc, task.apt, task.stms.as_slice(), task.targets)?

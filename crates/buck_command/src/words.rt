@@ -12,7 +12,7 @@ use buck_live::LiveTask;
 use buck_record::Memory;
 use buck_rule::NamedRule;
 use buck_sweep::{Combination, SweepTask, combinations};
-use buck_trial::{Draws, TrialTask, TuneTask, WishesTask};
+use buck_trial::{Draws, OwnedTask, TrialTask, TuneTask, WishesTask};
 use clap::{ArgMatches, Error};
 use std::alloc::{AllocError, Global};
 
@@ -308,7 +308,7 @@ fn asked_combinations(
     }
 }
 
-/// What the words after `sweep` ask for: where they name targets or draws, a trial.
+/// What the words after `sweep` ask for: where they name targets, draws or an owner's contract, a trial.
 fn sweep_work<'a>(alloc: Global, words: &ArgMatches<'a>) -> Result<Work<'a>, Unasked> {
     let draws = asked_draws(words)?;
     let combinations = asked_combinations(alloc, words, &draws)?;
@@ -316,7 +316,8 @@ fn sweep_work<'a>(alloc: Global, words: &ArgMatches<'a>) -> Result<Work<'a>, Una
     let apt = word(words, "APT")?;
     let stms = asked_stems(alloc, words)?;
     let threads = asked_threads(words)?;
-    if draws.is_none() && targets.is_none() {
+    let own = words.get_str("own");
+    if draws.is_none() && targets.is_none() && own.is_none() {
         return Ok(Work::Sweep(SweepTask {
             combinations,
             apt,
@@ -324,14 +325,18 @@ fn sweep_work<'a>(alloc: Global, words: &ArgMatches<'a>) -> Result<Work<'a>, Una
             threads,
         }));
     }
-    Ok(Work::Trial(TrialTask {
+    let trial = TrialTask {
         combinations,
         apt,
         stms,
         targets,
         draws,
         threads,
-    }))
+    };
+    match own {
+        Some(own) => Ok(Work::Owned(OwnedTask { trial, own })),
+        None => Ok(Work::Trial(trial)),
+    }
 }
 
 /// What the words after `wishes` ask for.

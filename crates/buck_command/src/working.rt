@@ -10,7 +10,9 @@ use buck_ledger::{AppraiseTask, CompareTask, serve_appraise, serve_compare};
 use buck_live::{LiveTask, Replies, serve_live};
 use buck_sweep::{SweepTask, serve_sweep};
 use buck_terms::TermsFault;
-use buck_trial::{TrialTask, TuneTask, WishesTask, serve_trial, serve_tune, serve_wishes};
+use buck_trial::{
+    OwnedTask, TrialTask, TuneTask, WishesTask, serve_owned, serve_trial, serve_tune, serve_wishes,
+};
 use std::alloc::Global;
 use std::io;
 use std::sync::Wait;
@@ -35,6 +37,8 @@ pub enum Work<'a> {
     Sweep(SweepTask<'a>),
     /// Rules, periods and limits are to be compared with other targets, or with orders that are drawn.
     Trial(TrialTask<'a>),
+    /// The same, with what is paid under an owner's contract.
+    Owned(OwnedTask<'a>),
     /// It is to be found what each target costs.
     Wishes(WishesTask<'a>),
     /// An instruction is to be tuned on stems.
@@ -64,8 +68,8 @@ pub struct Streams<R, W, E> {
 }
 
 /// Does the work. Each fault and what is written before it are those of [`serve`], [`serve_buck`], [`serve_fleet`],
-/// [`serve_check`], [`serve_view`], [`serve_live`], [`serve_sweep`], [`serve_trial`], [`serve_wishes`],
-/// [`serve_tune`], [`serve_appraise`] and [`serve_compare`].
+/// [`serve_check`], [`serve_view`], [`serve_live`], [`serve_sweep`], [`serve_trial`], [`serve_owned`],
+/// [`serve_wishes`], [`serve_tune`], [`serve_appraise`] and [`serve_compare`].
 pub fn serve_work<
     T: Threads + Wait + Sync,
     L: Onlooker + Sync,
@@ -94,6 +98,7 @@ pub fn serve_work<
         Work::Live(task) => Ok(serve_live(alloc, task, input, files, output)?),
         Work::Sweep(task) => Ok(serve_sweep(rt, alloc, task, files, output)?),
         Work::Trial(task) => serve_trial(rt, alloc, task, files, output),
+        Work::Owned(task) => serve_owned(rt, alloc, task, files, output),
         Work::Wishes(task) => serve_wishes(rt, alloc, task, files, output),
         Work::Tune(task) => serve_tune(alloc, task, files, output),
         Work::Appraise(task) => serve_appraise(rt, alloc, task, files, output),
