@@ -1,6 +1,6 @@
 -- A sweep whose lines also say what an owner pays: behind the line of a trial, what the run brings under the owner's
 -- instruction, and what its draws lose there.
-use Rattle.std.specs.Prelude.{◌≡◌, ◌⊎◌, ℕ, ◌+◌, min, List, [], ◌∷◌, ◌++◌, length, map, Option, Some, None, Result, Ok, Err, codes}
+use Rattle.std.specs.Prelude.{◌≡◌, ◌⊎◌, ◌≤◌, ℕ, ◌+◌, min, List, [], ◌∷◌, ◌++◌, length, map, Option, Some, None, Result, Ok, Err, codes}
 use Rattle.std.specs.List.{AllZip, flat_map}
 use Rattle.std.specs.Option.{option_map}
 use Rattle.std.specs.Io.KnownBytes.{Keeps}
@@ -11,6 +11,7 @@ use Rattle.buck_apt.specs.Apt.{apt_of}
 use Rattle.buck_apt.specs.Instruction.{InstructionParts}
 use Rattle.buck_apt.specs.Settings.{with_settings}
 use Rattle.buck_stem.specs.declared.stem.Stem.{Stem}
+use Rattle.buck_book.specs.declared.posting.TheConstants.{MOST_POSTINGS}
 use Rattle.buck_book.specs.History.{HistoryParts}
 use Rattle.buck_cells.specs.Cells.{number_cell}
 use Rattle.buck_draws.specs.declared.orders.Draws.{Draws}
@@ -27,6 +28,7 @@ use Rattle.buck_terms.specs.Own.{HasShapeOf}
 use Rattle.buck_terms.specs.declared.fault.TermsFault.TheVariants.{Run}
 use Rattle.buck_terms.specs.Reading.{AnswersLast, IsOwnFileFault}
 use Rattle.buck_terms.specs.Telling.{WritesTerms}
+use Rattle.buck_turn.specs.Turn.{stems_in_all}
 use Rattle.buck_trial.specs.declared.outcome.OwnRun.{OwnRun}
 use Rattle.buck_trial.specs.declared.owned.OwnedFiles.{OwnedFiles}
 use Rattle.buck_trial.specs.declared.reading.Opened.{Opened}
@@ -118,12 +120,13 @@ pub record IsOwned (cs : List Combination) (draws : Option Draws) (apt : Option 
   pub shape : HasShapeOf instruction owner
   pub is_owned : IsOwnedOver owner instruction lists cs (starts_of draws lists) text
 
--- the owner's instruction is refused, behind all other files
+-- the owner's instruction is refused; all files before it are accepted, and their stems aren't too many
 pub record IsOwnStop (apt : Option (List ℕ)) (stms : List (Option (List ℕ)))
     (targets : Option (Option (List ℕ) × ℕ)) (own : Option (List ℕ) × ℕ) (fault : TermsFault) : Type 0 where
   pub instruction : InstructionParts
   pub lists : List (Vec (Arc Stem Global) Global)
   pub says : SaysInput apt stms targets instruction lists
+  pub few : stems_in_all lists ≤ MOST_POSTINGS
   pub is_fault : IsOwnFileFault own.1 instruction own.0 fault
 
 -- the table, or why there is none

@@ -33,6 +33,7 @@ returns-in_err-owner g c =
       instruction = c.in_ok-input.input.instruction;
       lists = c.in_ok-input.input.lists.items;
       says = c.in_ok-input.ensures.says;
+      few = c.in_ok-input.ensures.room;
       is_fault = is;
     }))
 
