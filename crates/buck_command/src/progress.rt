@@ -1,11 +1,12 @@
-//! What a person who looks on is told while long work goes on: which long files were read, and how far a fleet is. Of
-//! short work nothing is told.
+//! What a person who looks on is told while long work goes on: which long files were read, and how far a fleet or a
+//! trial is. Of short work nothing is told.
 ghost use Rattle.std.specs.Prelude.{◌≡◌};
 ghost use Rattle.std.specs.Option.{option_map};
 
 use crate::inputs::Kept;
 use buck_engine::{Make, Onlooker, Open};
 use buck_reason::Shown;
+use buck_trial::RunOnlooker;
 use std::alloc::Global;
 use std::io;
 use std::sync::atomic::{AtomicBool, AtomicU64, Ordering};
@@ -28,8 +29,9 @@ pub struct Progress<S, C> {
     screen: Option<Screen<S, C>>,
     start: Option<Instant>,
     is_drawn: AtomicBool,
-    stems: AtomicU64,
-    planned: AtomicU64,
+    /// How many stems or runs there are, and how many of them are done.
+    all: AtomicU64,
+    done: AtomicU64,
 }
 
 /// The least number of bytes of a file that is told of.
@@ -47,6 +49,11 @@ pub fn is_told(planned: u64, stems: u64) -> bool {
     planned % (stems / 100).max(MANY) == 0 || planned == stems
 }
 
+/// How many percent of all so many are.
+fn percent(done: u64, all: u64) -> u64 {
+    done.saturating_mul(100) / all.max(1)
+}
+
 impl<S: io::Write + Copy, C: Clock + Copy> Progress<S, C> {
     /// A line on this screen, for work that begins now; none where there is no screen.
     pub fn on(alloc: Global, screen: Option<Screen<S, C>>) -> Progress<S, C> {
@@ -59,8 +66,8 @@ impl<S: io::Write + Copy, C: Clock + Copy> Progress<S, C> {
             screen,
             start,
             is_drawn: AtomicBool::new(false),
-            stems: AtomicU64::new(0),
-            planned: AtomicU64::new(0),
+            all: AtomicU64::new(0),
+            done: AtomicU64::new(0),
         }
     }
 
@@ -95,6 +102,17 @@ impl<S: io::Write + Copy, C: Clock + Copy> Progress<S, C> {
         }
     }
 
+    /// About how many seconds the rest takes, where so many of all are done; 0 where that isn't known.
+    fn seconds_left(&self, done: u64, all: u64) -> u64 {
+        let (Some(screen), Some(start)) = (&self.screen, self.start) else {
+            return 0;
+        };
+        match start.elapsed(&screen.clock) {
+            Ok(time) => time.as_secs().saturating_mul(all.saturating_sub(done)) / done.max(1),
+            Err(_) => 0,
+        }
+    }
+
     /// The work has ended: what is drawn stays.
     pub fn end(&self) {
         if !self.is_drawn.load(Ordering::SeqCst) {
@@ -119,7 +137,7 @@ impl<S: io::Write + Copy, C: Clock + Copy> Progress<S, C> {
 
 impl<S: io::Write + Copy, C: Clock + Copy> Onlooker for Progress<S, C> {
     fn cutting(&self, stems: usize) {
-        self.stems.store(stems as u64, Ordering::SeqCst);
+        self.all.store(stems as u64, Ordering::SeqCst);
         if (stems as u64) < MANY {
             return;
         }
@@ -129,15 +147,35 @@ impl<S: io::Write + Copy, C: Clock + Copy> Onlooker for Progress<S, C> {
     }
 
     fn planned(&self) {
-        let planned = self
-            .planned
-            .fetch_add(1, Ordering::SeqCst)
-            .saturating_add(1);
-        let stems = self.stems.load(Ordering::SeqCst);
+        let planned = self.done.fetch_add(1, Ordering::SeqCst).saturating_add(1);
+        let stems = self.all.load(Ordering::SeqCst);
         if stems < MANY || !is_told(planned, stems) {
             return;
         }
         if let Ok(line) = format!(in self.alloc; "{planned} of {stems} stems planned") {
+            self.draw(line.as_str());
+        }
+    }
+}
+
+impl<S: io::Write + Copy, C: Clock + Copy> RunOnlooker for Progress<S, C> {
+    fn making(&self, runs: usize) {
+        self.all.store(runs as u64, Ordering::SeqCst);
+    }
+
+    fn made(&self, runs: usize) {
+        let more = runs as u64;
+        let before = self.done.fetch_add(more, Ordering::SeqCst);
+        let made = before.saturating_add(more);
+        let all = self.all.load(Ordering::SeqCst);
+        if percent(before, all) == percent(made, all) {
+            return;
+        }
+        let line = match self.seconds_left(made, all) {
+            0 => format!(in self.alloc; "{made} of {all} runs made"),
+            seconds => format!(in self.alloc; "{made} of {all} runs made, about {seconds} s left"),
+        };
+        if let Ok(line) = line {
             self.draw(line.as_str());
         }
     }

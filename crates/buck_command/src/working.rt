@@ -11,7 +11,7 @@ use buck_live::{LiveTask, Replies, serve_live};
 use buck_sweep::{SweepTask, serve_sweep};
 use buck_terms::TermsFault;
 use buck_trial::{
-    OwnedTask, TrialTask, TuneTask, WishesTask, serve_owned, serve_trial, serve_tune, serve_wishes,
+    OwnedTask, RunOnlooker, TrialTask, TuneTask, WishesTask, serve_owned, serve_trial, serve_tune, serve_wishes,
 };
 use std::alloc::Global;
 use std::io;
@@ -72,7 +72,7 @@ pub struct Streams<R, W, E> {
 /// [`serve_wishes`], [`serve_tune`], [`serve_appraise`] and [`serve_compare`].
 pub fn serve_work<
     T: Threads + Wait + Sync,
-    L: Onlooker + Sync,
+    L: Onlooker + RunOnlooker + Sync,
     O: Open + Make,
     R: io::Read,
     W: Replies,
@@ -97,9 +97,9 @@ pub fn serve_work<
         Work::View(task) => Ok(serve_view(rt, alloc, task, files, output)?),
         Work::Live(task) => Ok(serve_live(alloc, task, input, files, output)?),
         Work::Sweep(task) => Ok(serve_sweep(rt, alloc, task, files, output)?),
-        Work::Trial(task) => serve_trial(rt, alloc, task, files, output),
+        Work::Trial(task) => serve_trial(rt, alloc, task, onlooker, files, output),
         Work::Owned(task) => serve_owned(rt, alloc, task, files, output),
-        Work::Wishes(task) => serve_wishes(rt, alloc, task, files, output),
+        Work::Wishes(task) => serve_wishes(rt, alloc, task, onlooker, files, output),
         Work::Tune(task) => serve_tune(alloc, task, files, output),
         Work::Appraise(task) => serve_appraise(rt, alloc, task, files, output),
         Work::Compare(task) => Ok(serve_compare(rt, alloc, task, files, output)?),

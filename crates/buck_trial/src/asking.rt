@@ -111,6 +111,11 @@ impl Asking {
         })
     }
 
+    /// How many runs there are of an instruction.
+    pub(crate) fn number(&self) -> usize {
+        self.starts.len().saturating_add(1)
+    }
+
     /// What is wanted of the assortment at a place, and what it has unsteered.
     pub(crate) fn asked(&self, at: usize) -> Asked<'_>
         requires asking { IsAsking self.now }

@@ -10,6 +10,7 @@
 mod asking;
 mod light;
 mod moved;
+mod onlooker;
 mod outcome;
 mod owned;
 mod parts;
@@ -25,6 +26,7 @@ mod wishes;
 pub use buck_draws::Draws;
 pub use buck_terms::TermsFault;
 pub use moved::moved_targets;
+pub use onlooker::RunOnlooker;
 pub use owned::{OwnedFiles, run_owned, serve_owned};
 pub use reading::Opened;
 pub use serving::{serve_trial, serve_wishes};

@@ -145,7 +145,7 @@ impl<'a> Asked<'a> {
 /// logs that it has unsteered, while the others of its assortment keep their proportions: these are multiplied by as
 /// much as they may be, and the moved one is rounded to the nearest, a half upwards. It stays within what a target may
 /// be, and the targets of its assortment together. The class must be a wish. Refused as `Memory` alone.
-pub fn moved_targets(
+pub(crate) fn moved_targets(
     alloc: Global,
     instruction: &Instruction,
     targets: &[u32],

@@ -30,7 +30,7 @@ use buck_apt::Instruction;
 use buck_book::Parts;
 use buck_cells::{Change, put_numbers, put_spread, spread_of};
 use buck_draws::order_from;
-use buck_engine::{EngineFault, Input, Open, number_of_threads, write_text};
+use buck_engine::{EngineFault, Input, Nobody, Open, number_of_threads, write_text};
 use buck_journal::Journal;
 use buck_ledger::appraise;
 use buck_record::Memory;
@@ -382,9 +382,10 @@ fn owned_table<T: Threads + Sync>(
         combinations.now starts.now text.items) }
     ensures stop { IfErr result (IsStop input.now.lists.items) }
 {
-    let lines = lines_in_parts(rt, alloc, threads, input, combinations)?;
+    // Half of the runs are made here and half by `tails_in_parts`, so neither is told as a part of the whole.
+    let lines = lines_in_parts(rt, alloc, threads, &Nobody, input, combinations)?;
     let planned = plan_all(alloc, combinations, starts)?;
-    let drawn = drawn_in_parts(rt, alloc, threads, input, planned.as_slice())?;
+    let drawn = drawn_in_parts(rt, alloc, threads, &Nobody, input, planned.as_slice())?;
     let best = best_of(alloc, input, starts)?;
     let tails = tails_in_parts(rt, alloc, threads, input, own, combinations, starts)?;
     let owned = MadeOwned {

@@ -1,6 +1,7 @@
 //! Whole runs of trials: the files of a task, and its table.
 ghost use Rattle.buck_trial.specs.Serving.{RunsTrial, RunsWishes};
 
+use crate::onlooker::RunOnlooker;
 use crate::reading::open_files;
 use crate::task::{TrialTask, WishesTask};
 use crate::trial::run_trial;
@@ -14,10 +15,11 @@ use std::thread::Threads;
 /// Makes the table that a task asks for over the files of its names. The files are opened in the order of the words,
 /// that of targets last, before one of them is read; one that can't be opened is `Read` with its number. Else the
 /// faults are those of [`run_trial`].
-pub fn serve_trial<T: Threads + Sync, O: Open, W: io::Write>(
+pub fn serve_trial<T: Threads + Sync, L: RunOnlooker + Sync, O: Open, W: io::Write>(
     rt: &T,
     alloc: Global,
     task: &TrialTask<'_>,
+    onlooker: &L,
     opener: &mut O,
     out: &mut W,
 ) -> Result<(), TermsFault>
@@ -26,15 +28,16 @@ pub fn serve_trial<T: Threads + Sync, O: Open, W: io::Write>(
 {
     let stms = task.stms.as_slice();
     let files = open_files(alloc, opener, task.apt, stms, task.targets)?;
-    run_trial(rt, alloc, task, files, out)
+    run_trial(rt, alloc, task, onlooker, files, out)
 }
 
 /// Finds what each wish costs over the files of a task's names. The files are opened as by [`serve_trial`]; else the
 /// faults are those of [`run_wishes`].
-pub fn serve_wishes<T: Threads + Sync, O: Open, W: io::Write>(
+pub fn serve_wishes<T: Threads + Sync, L: RunOnlooker + Sync, O: Open, W: io::Write>(
     rt: &T,
     alloc: Global,
     task: &WishesTask<'_>,
+    onlooker: &L,
     opener: &mut O,
     out: &mut W,
 ) -> Result<(), TermsFault>
@@ -43,5 +46,5 @@ pub fn serve_wishes<T: Threads + Sync, O: Open, W: io::Write>(
 {
     let stms = task.stms.as_slice();
     let files = open_files(alloc, opener, task.apt, stms, task.targets)?;
-    run_wishes(rt, alloc, task, files, out)
+    run_wishes(rt, alloc, task, onlooker, files, out)
 }

@@ -10,6 +10,7 @@ ghost use Rattle.buck_trial.specs.inner.Running.{AnswersOver};
 ghost use Rattle.buck_trial.specs.inner.Lines.{AreDrawnFor, AreLinesFor, AreRun, IsDrawnPart, IsLinesPart, all_draws, draws_of, runs_of};
 
 use crate::light::{base_worth, best_worth, cut_by_name, degrees_of, least_of};
+use crate::onlooker::RunOnlooker;
 use crate::parts::{joined, size_of};
 use crate::reading::{Opened, of_run, read_files};
 use crate::table::{put_first, put_line};
@@ -61,9 +62,10 @@ fn run_drawn(
 }
 
 /// The lines of combinations, one for each, as those of a sweep.
-fn lines_of(
+fn lines_of<L: RunOnlooker>(
     alloc: Global,
     input: &Input,
+    onlooker: &L,
     combinations: &[Combination],
 ) -> Result<Vec<Vec<u8>>, EngineFault>
     requires few { length input.now.lists.items ≤ 64 }
@@ -75,14 +77,16 @@ fn lines_of(
     for combination in combinations {
         let line = run_line(alloc, input, combination)?;
         lines.push(line)?;
+        onlooker.made(1);
     }
     Ok(lines)
 }
 
 /// What some runs came to, one for each.
-fn drawn_of(
+fn drawn_of<L: RunOnlooker>(
     alloc: Global,
     input: &Input,
+    onlooker: &L,
     planned: &[Planned<'_>],
 ) -> Result<Vec<Drawn>, EngineFault>
     requires few { length input.now.lists.items ≤ 64 }
@@ -94,15 +98,17 @@ fn drawn_of(
     for run in planned {
         let drawn = run_drawn(alloc, input, run.combination, run.start)?;
         made.push(drawn)?;
+        onlooker.made(1);
     }
     Ok(made)
 }
 
 /// The lines of combinations, with the runs in at most so many threads at once.
-pub(crate) fn lines_in_parts<T: Threads + Sync>(
+pub(crate) fn lines_in_parts<T: Threads + Sync, L: RunOnlooker + Sync>(
     rt: &T,
     alloc: Global,
     threads: usize,
+    onlooker: &L,
     input: &Input,
     combinations: &[Combination],
 ) -> Result<Vec<Vec<u8>>, EngineFault>
@@ -115,7 +121,7 @@ pub(crate) fn lines_in_parts<T: Threads + Sync>(
     let make = |_: usize, part: &[Combination]| -> Result<Vec<Vec<u8>>, EngineFault>
         requires { length input.now.lists.items ≤ 64 }
         ensures { IsLinesPart input.entry.now.instruction input.entry.now.lists.items part.now result }
-    { lines_of(alloc, input, part) };
+    { lines_of(alloc, input, onlooker, part) };
     let size = size_of(combinations.len(), threads);
     let parts = thread::map_chunks(rt, alloc, combinations, size, &make)?;
     joined(alloc, parts)
@@ -155,10 +161,11 @@ pub(crate) fn plan_all<'a>(
 }
 
 /// What the runs of all draws came to, done in at most so many threads at once.
-pub(crate) fn drawn_in_parts<T: Threads + Sync>(
+pub(crate) fn drawn_in_parts<T: Threads + Sync, L: RunOnlooker + Sync>(
     rt: &T,
     alloc: Global,
     threads: usize,
+    onlooker: &L,
     input: &Input,
     planned: &[Planned<'_>],
 ) -> Result<Vec<Drawn>, EngineFault>
@@ -171,7 +178,7 @@ pub(crate) fn drawn_in_parts<T: Threads + Sync>(
     let make = |_: usize, part: &[Planned<'_>]| -> Result<Vec<Drawn>, EngineFault>
         requires { length input.now.lists.items ≤ 64 }
         ensures { IsDrawnPart input.entry.now.instruction input.entry.now.lists.items part.now result }
-    { drawn_of(alloc, input, part) };
+    { drawn_of(alloc, input, onlooker, part) };
     let size = size_of(planned.len(), threads);
     let parts = thread::map_chunks(rt, alloc, planned, size, &make)?;
     joined(alloc, parts)
@@ -246,10 +253,11 @@ fn text_of(
 }
 
 /// The table of some combinations over what files say, with the runs in at most so many threads at once.
-fn table_of<T: Threads + Sync>(
+fn table_of<T: Threads + Sync, L: RunOnlooker + Sync>(
     rt: &T,
     alloc: Global,
     threads: usize,
+    onlooker: &L,
     input: &Input,
     combinations: &[Combination],
     starts: &[u64],
@@ -262,9 +270,10 @@ fn table_of<T: Threads + Sync>(
         IsTrialOver input.now.instruction input.now.lists.items combinations.now starts.now text.items) }
     ensures stop { IfErr result (IsStop input.now.lists.items) }
 {
-    let lines = lines_in_parts(rt, alloc, threads, input, combinations)?;
+    onlooker.making(combinations.len().saturating_mul(starts.len() + 1));
+    let lines = lines_in_parts(rt, alloc, threads, onlooker, input, combinations)?;
     let planned = plan_all(alloc, combinations, starts)?;
-    let drawn = drawn_in_parts(rt, alloc, threads, input, planned.as_slice())?;
+    let drawn = drawn_in_parts(rt, alloc, threads, onlooker, input, planned.as_slice())?;
     let best = best_of(alloc, input, starts)?;
     let made = Made {
         lines: lines.as_slice(),
@@ -275,10 +284,11 @@ fn table_of<T: Threads + Sync>(
 }
 
 /// Makes the table of a task over what files say, and writes it.
-fn write_trial<T: Threads + Sync, W: io::Write>(
+fn write_trial<T: Threads + Sync, L: RunOnlooker + Sync, W: io::Write>(
     rt: &T,
     alloc: Global,
     task: &TrialTask<'_>,
+    onlooker: &L,
     input: &Input,
     out: &mut W,
 ) -> Result<(), EngineFault>
@@ -291,7 +301,15 @@ fn write_trial<T: Threads + Sync, W: io::Write>(
     let starts = all_starts(alloc, &task.draws, input)?;
     let threads = number_of_threads(rt, task.threads);
     let combinations = task.combinations.as_slice();
-    let text = table_of(rt, alloc, threads, input, combinations, starts.as_slice())?;
+    let text = table_of(
+        rt,
+        alloc,
+        threads,
+        onlooker,
+        input,
+        combinations,
+        starts.as_slice(),
+    )?;
     write_text(out, text.as_slice())
 }
 
@@ -306,10 +324,11 @@ fn write_trial<T: Threads + Sync, W: io::Write>(
 /// the next: as `Read`, `Apt`, `Stm` or `Targets`. `Full` comes where there are more stems than 1,000,000, before the
 /// file of targets is read, `Write` where the writer fails, which leaves a prefix of the table, and `Memory` where a
 /// growth was refused.
-pub fn run_trial<T: Threads + Sync, R: io::Read + Drop, W: io::Write>(
+pub fn run_trial<T: Threads + Sync, L: RunOnlooker + Sync, R: io::Read + Drop, W: io::Write>(
     rt: &T,
     alloc: Global,
     task: &TrialTask<'_>,
+    onlooker: &L,
     files: Opened<R>,
     out: &mut W,
 ) -> Result<(), TermsFault>
@@ -322,5 +341,5 @@ pub fn run_trial<T: Threads + Sync, R: io::Read + Drop, W: io::Write>(
         (W.contents out.old) (W.contents out.new) result }
 {
     let input = read_files(alloc, files)?;
-    of_run(write_trial(rt, alloc, task, &input, out))
+    of_run(write_trial(rt, alloc, task, onlooker, &input, out))
 }

@@ -16,6 +16,7 @@ ghost use Rattle.buck_trial.specs.inner.Asking.{AreAsked, AreBelow, AreDrawnBy, 
 
 use crate::asking::Asking;
 use crate::light::{cut_by_name, targets_of};
+use crate::onlooker::RunOnlooker;
 use crate::outcome::{Outcome, Runs};
 use crate::parts::{joined, size_of};
 use crate::reading::{Opened, of_run, read_files};
@@ -164,9 +165,10 @@ fn wishes_of(alloc: Global, asking: &Asking) -> Result<Vec<Wish>, Memory>
 }
 
 /// Tells some wishes, one after the other.
-fn told_of(
+fn told_of<L: RunOnlooker>(
     alloc: Global,
     asking: &Asking,
+    onlooker: &L,
     whole: &Runs,
     wishes: &[Wish],
 ) -> Result<Vec<Told>, EngineFault>
@@ -180,15 +182,17 @@ fn told_of(
     for wish in wishes {
         let one = tell_wish(alloc, asking, whole, *wish)?;
         told.push(one)?;
+        onlooker.made(asking.number());
     }
     Ok(told)
 }
 
 /// Tells wishes, in at most so many threads at once.
-fn told_in_parts<T: Threads + Sync>(
+fn told_in_parts<T: Threads + Sync, L: RunOnlooker + Sync>(
     rt: &T,
     alloc: Global,
     threads: usize,
+    onlooker: &L,
     asking: &Asking,
     whole: &Runs,
     wishes: &[Wish],
@@ -204,7 +208,7 @@ fn told_in_parts<T: Threads + Sync>(
         requires { IsAsking asking.now × (length whole.now.drawn.items ≡ length asking.now.starts.items)
             × AreAsked asking.now part.now }
         ensures { IsToldPart asking.entry.now whole.entry.now part.now result }
-    { told_of(alloc, asking, whole, part) };
+    { told_of(alloc, asking, onlooker, whole, part) };
     let size = size_of(wishes.len(), threads);
     let parts = thread::map_chunks(rt, alloc, wishes, size, &make)?;
     joined(alloc, parts)
@@ -264,10 +268,11 @@ fn text_of(alloc: Global, starts: &[u64], whole: &Outcome, told: &[Told]) -> Res
 }
 
 /// The table of all wishes, with the runs in at most so many threads at once.
-fn table_of<T: Threads + Sync>(
+fn table_of<T: Threads + Sync, L: RunOnlooker + Sync>(
     rt: &T,
     alloc: Global,
     threads: usize,
+    onlooker: &L,
     asking: &Asking,
 ) -> Result<Vec<u8>, EngineFault>
     requires threads { 0 < threads }
@@ -276,18 +281,29 @@ fn table_of<T: Threads + Sync>(
         asking.now.input.lists.items asking.now.starts.items text.items) }
     ensures stop { IfErr result (IsStop asking.now.input.lists.items) }
 {
-    let whole = whole_in_parts(rt, alloc, threads, asking)?;
     let wishes = wishes_of(alloc, asking)?;
-    let mut told = told_in_parts(rt, alloc, threads, asking, &whole, wishes.as_slice())?;
+    onlooker.making(asking.number().saturating_mul(wishes.len() + 1));
+    let whole = whole_in_parts(rt, alloc, threads, asking)?;
+    onlooker.made(asking.number());
+    let mut told = told_in_parts(
+        rt,
+        alloc,
+        threads,
+        onlooker,
+        asking,
+        &whole,
+        wishes.as_slice(),
+    )?;
     told.sort_by(by_worth)?;
     Ok(text_of(alloc, asking.starts.as_slice(), &whole.own, told.as_slice())?)
 }
 
 /// Finds what each wish costs over what files say, and writes it.
-fn write_wishes<T: Threads + Sync, W: io::Write>(
+fn write_wishes<T: Threads + Sync, L: RunOnlooker + Sync, W: io::Write>(
     rt: &T,
     alloc: Global,
     task: &WishesTask<'_>,
+    onlooker: &L,
     input: Input,
     out: &mut W,
 ) -> Result<(), EngineFault>
@@ -299,7 +315,7 @@ fn write_wishes<T: Threads + Sync, W: io::Write>(
 {
     let threads = number_of_threads(rt, task.threads);
     let asking = asking_of(alloc, input, task)?;
-    let text = table_of(rt, alloc, threads, &asking)?;
+    let text = table_of(rt, alloc, threads, onlooker, &asking)?;
     write_text(out, text.as_slice())
 }
 
@@ -309,10 +325,11 @@ fn write_wishes<T: Threads + Sync, W: io::Write>(
 /// comes first, and of equals the lower class; with draws by the sum of their gains. The runs are done in several
 /// threads at once, and the faults are those of [`run_trial`](crate::run_trial). Nothing is written before the whole
 /// table is there.
-pub fn run_wishes<T: Threads + Sync, R: io::Read + Drop, W: io::Write>(
+pub fn run_wishes<T: Threads + Sync, L: RunOnlooker + Sync, R: io::Read + Drop, W: io::Write>(
     rt: &T,
     alloc: Global,
     task: &WishesTask<'_>,
+    onlooker: &L,
     files: Opened<R>,
     out: &mut W,
 ) -> Result<(), TermsFault>
@@ -325,5 +342,5 @@ pub fn run_wishes<T: Threads + Sync, R: io::Read + Drop, W: io::Write>(
         (W.contents out.old) (W.contents out.new) result }
 {
     let input = read_files(alloc, files)?;
-    of_run(write_wishes(rt, alloc, task, input, out))
+    of_run(write_wishes(rt, alloc, task, onlooker, input, out))
 }

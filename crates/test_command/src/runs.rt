@@ -339,7 +339,7 @@ const BAD: &str = "bad, line 1: kind of file (1 2): \"BAD\", STM wanted\n";
 const BLANK: &str = "long: kind of file (1 2): not there, 1 2 APT~ wanted\n";
 
 /// Words, and what stands on the screen, by a clock that is read 600 ms after it was read before.
-const SCREENS: [(&str, &str); 16] = [
+const SCREENS: [(&str, &str); 18] = [
     ("buck long stm", BLANK),
     (
         "fleet apt many",
@@ -382,6 +382,14 @@ const SCREENS: [(&str, &str); 16] = [
     (
         "fleet --journal full apt stm",
         "full: can't be opened, read or written\n",
+    ),
+    (
+        "sweep --rule steady --draws 4 --threads 1 apt empty",
+        "\r1 of 5 runs made\x1b[K\r2 of 5 runs made, about 1 s left\x1b[K\r3 of 5 runs made, about 2 s left\x1b[K\r4 of 5 runs made, about 1 s left\x1b[K\r5 of 5 runs made\x1b[K\n",
+    ),
+    (
+        "wishes --rule steady apt empty",
+        "\r1 of 1 runs made\x1b[K\n",
     ),
 ];
 

@@ -4,7 +4,7 @@ use Rattle.buck_trial.proofs.Each.{zip_taken}
 use Rattle.buck_trial.proofs.wishes.told_of.Goals as goal
 
 pub loop-wish-preserved : goal.loop-wish-preserved
-loop-wish-preserved c =
+loop-wish-preserved g c =
     zip_taken (IsToldOf c.args.asking.now c.args.whole.now) c.args.wishes.now c.loop-wish.wish-index _
     c.loop-wish.told.items c.push.new.self.items c.in_ok-one.one c.loop-wish-test.true
     (get_or_default c.args.wishes.now c.loop-wish.wish-index _ _ c.loop-wish-test.true)
