@@ -65,7 +65,8 @@ SaysOnly words before text after = (text ≡ words) × (after ≡ before)
 -- PREVIEW <stem number> <stem length> <number of logs> <worth>, and a line for each log
 abbrev pub preview_lines : SheetParts → StemParts → List Log → List ℕ
 preview_lines sheet stem logs =
-    line_of (codes "PREVIEW") (stem.number ∷ stem_length stem.samples ∷ length logs ∷ cutting_worth sheet stem logs ∷ [])
+    line_of (codes "PREVIEW")
+    (stem.number ∷ stem_length stem.samples ∷ length logs ∷ cutting_worth sheet stem logs ∷ [])
     ++ flat_map (log_line sheet stem) logs
 
 -- a stem is previewed: the first of the best cuttings under the sheet in force, with the worths of that sheet

@@ -8,5 +8,5 @@ prove-unreachable-requires g c =
     let asked = c.requires.asked in
     let same : c.run-outcome.new.out.items ≡ codes "OWN 7 not 1 length\n" = search rules in
     let run : IsLiveRun c.args.live.now.history (Some c.args.request.now) (Some []) (Some c.run-outcome.new.out.items)
-        (Ok tt) c.run-outcome.new.self.history = search rules in
+    (Ok tt) c.run-outcome.new.self.history = search rules in
     named_later _ _ _ _ asked.0 asked.1 asked.2 run c.requires.line asked.3 asked.4 asked.5 asked.6 same
