@@ -27,16 +27,14 @@ fn targets_refusal(
     let Ok(Some(request)) = read_request(alloc, source.bytes) else {
         return Ok(None);
     };
-    match &request.asked {
-        Asked::Stem(_) => Ok(None),
-        Asked::Targets(targets) => {
-            let wrong = WrongTargets {
-                instruction,
-                targets: targets.as_slice(),
-            };
-            Ok(Some(format!(in alloc; "{}: {wrong}\n", source.whole())?))
-        }
-    }
+    let Asked::Targets(targets) = &request.asked else {
+        return Ok(None);
+    };
+    let wrong = WrongTargets {
+        instruction,
+        targets: targets.as_slice(),
+    };
+    Ok(Some(format!(in alloc; "{}: {wrong}\n", source.whole())?))
 }
 
 /// Why a line is refused, in a line of text, given its answer and whether it isn't too long; none where it isn't
