@@ -258,6 +258,11 @@ over. A last line that ends with neither ~ nor a line feed is refused: who wrote
 it may have died within it. The journal, which check reads with the same words,
 is written at the end of the input.
 
+A stem with 955 1 1 is previewed: a PREVIEW line in the place of STEM, and its
+LOG lines. With 956 1 and a start, a length and an assortment for each log, from
+the butt on, an OWN line says what they are worth beside the best, or which of
+them can't be cut, and why. Neither is posted.
+
 Examples:
   buckfleet live --rule linear --journal day.jrn pine.apt < pipe
   echo '951 1 7~952 1 1~953 1 310 280 250 220~' | buckfleet live pine.apt
