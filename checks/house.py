@@ -226,7 +226,7 @@ def wrong_copies():
 def documents():
     """The documents of the repository, by their paths: those at its top and in some folders, and the pages of crates."""
     crates_there = sorted(os.listdir(os.path.join(TOP, "crates")))
-    for folder in ("", "docs", "bench", "python", "checks/live_own", *(f"crates/{crate}" for crate in crates_there)):
+    for folder in ("", "docs", "bench", "python", *(f"crates/{crate}" for crate in crates_there)):
         for name in sorted(os.listdir(os.path.join(TOP, folder))):
             if name.endswith(".md"):
                 yield os.path.join(folder, name)

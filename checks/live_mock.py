@@ -4,13 +4,11 @@
     checks/live_mock.py live [--rule RULE] [--period N] [--limit N] [--journal OUT] APT
     checks/live_mock.py [--write]
 
-The first form answers the requests of standard input, one a line, as docs/COMMANDS.md has them under "live" and
-checks/live_own/README.md goes on. It takes APT for an instruction file that isn't refused, and has no
-`--explain`.
+The first form answers the requests of standard input, one a line, as docs/COMMANDS.md has them under "live". It takes
+APT for an instruction file that isn't refused, and has no `--explain`.
 
-The second form asks the mock each case of `live` in crates/run_cases/data/commands and in checks/live_own. The last
-line is 'N cases, M differ', and the status is 0 if none differs. With --write the cases of checks/live_own get the
-mock's answers.
+The second form asks the mock each case of `live` in crates/run_cases/data/commands and requests. The last line is
+'N cases, M differ', and the status is 0 if none differs. With --write the cases of requests get the mock's answers.
 """
 import argparse
 import io
@@ -23,8 +21,7 @@ from dataclasses import dataclass
 from c_library import bytes_of
 
 CHECKS = pathlib.Path(__file__).resolve().parent
-OWN_CASES = CHECKS / "live_own"
-CASES = CHECKS.parent / "crates" / "run_cases" / "data" / "commands"
+DATA = CHECKS.parent / "crates" / "run_cases" / "data"
 
 WHITE = b" \t\n\r"
 LONGEST = 1_048_576
@@ -549,8 +546,7 @@ def main():
     if words not in ([], ["--write"]):
         print(__doc__, file=sys.stderr)
         return 2
-    own = sorted(path for path in OWN_CASES.iterdir() if path.suffix != ".md")
-    told = [cases(path, bool(words)) for path in own] + [cases(CASES, False)]
+    told = [cases(DATA / "requests", bool(words)), cases(DATA / "commands", False)]
     number, differ = map(sum, zip(*told))
     print(f"{number} cases, {differ} differ")
     return 1 if differ else 0

@@ -17,7 +17,7 @@ use std::thread::Threads;
 use std::{fs, io};
 
 /// The files of cases, in the order in which they are run.
-const FILES: [&str; 16] = [
+const FILES: [&str; 17] = [
     "instructions_refused",
     "instructions_accepted",
     "instructions_cut_short",
@@ -29,6 +29,7 @@ const FILES: [&str; 16] = [
     "journals",
     "journals_cut_short",
     "commands",
+    "requests",
     "trials",
     "pages",
     "mistakes",
