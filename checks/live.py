@@ -4,7 +4,8 @@
     python3 checks/live.py --bin PATH/buckfleet
 
 Each answer must come before the next request is written; what was cut must be what a journal of it says; a request that
-is refused must change nothing; a last line that is cut off must not be cut. The exit status is 0 where all holds.
+is refused must change nothing; a last line that is cut off must not be cut. examples/live_loop.py must say the same of
+the program as of checks/live_mock.py, and that each stem was cut as it was shown. The exit status is 0 where all holds.
 """
 
 import argparse
@@ -59,6 +60,13 @@ def expect(is_right, what):
         sys.exit(f"checks/live.py: {what}")
 
 
+def looks(program):
+    """What the example that looks at stems first says of a program."""
+    files = [str(TOP / "examples" / name) for name in ("live_loop.py", "morning.apt", "morning_2.stm")]
+    words = [sys.executable, files[0], program, *files[1:]]
+    return subprocess.run(words, capture_output=True, text=True, check=True, timeout=SECONDS * 3).stdout
+
+
 def main():
     parser = argparse.ArgumentParser()
     parser.add_argument("--bin", default=str(TOP / "crates" / "buckfleet" / "out" / "buckfleet"))
@@ -103,7 +111,11 @@ def main():
         words = ("check", "pine.apt", "left.jrn")
         lawful = subprocess.run([program, *words], cwd=folder, capture_output=True).stdout
         expect(lawful == b"LAWFUL 1\n", f"the journal of a closed output is {lawful}")
-    print(f"{len(stems)} stems, each answered while the pipe was open")
+    found, wanted = looks(program), looks(str(TOP / "checks" / "live_mock.py"))
+    expect(found == wanted, f"examples/live_loop.py says {found} in the place of {wanted}")
+    rows = [line.split()[1:] for line in found.splitlines()]
+    expect(rows and rows[::3] == rows[2::3], f"a stem was cut otherwise than it was shown: {found}")
+    print(f"{len(stems)} stems, each answered while the pipe was open; {len(rows) // 3} looked at first")
 
 
 if __name__ == "__main__":
