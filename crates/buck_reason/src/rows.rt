@@ -1,7 +1,7 @@
 //! The items of files by their number and kind. Their names, ranges and orders stand in the crates of their forms.
 use crate::item::Key;
-use buck_record::Count::{Any, One};
-use buck_record::Level::Head;
+use buck_record::Count::{Any, One, Triples};
+use buck_record::Level::{Head, Member};
 use buck_record::Order::First;
 use buck_record::{Described, Slot, described, slot};
 use std::fmt;
@@ -9,12 +9,24 @@ use std::fmt;
 /// The harvester that asks.
 pub(crate) const HARVESTER: Slot = slot!(950, 1, 1..=64);
 
+/// That the stem of a request is previewed.
+const PREVIEW: Slot = slot!(955, 1, 1..=1);
+
+/// The operator's own logs of the stem of a request: their starts, their lengths and their assortments.
+const OWN: [Slot; 3] = [
+    slot!(956, 1, 0..=40_000),
+    slot!(956, 1, 0..=30_000),
+    slot!(956, 1, 0..=15),
+];
+
 /// The new targets of a request.
 pub(crate) const NEW_TARGETS: Slot = slot!(982, 2);
 
 /// The items that stand in a request alone.
-pub static REQUEST: [Described; 2] = [
+pub static REQUEST: [Described; 4] = [
     described!([HARVESTER], "harvester", Head, One, First),
+    described!([PREVIEW], "preview", Member, One),
+    described!(OWN, "own logs", Member, Triples(80)),
     described!([NEW_TARGETS], "targets", Head, Any),
 ];
 

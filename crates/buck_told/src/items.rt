@@ -40,6 +40,16 @@ impl Part<'_> {
                 write!(f, "1 to {most} bytes, none of them a control byte, | or ~")
             }
             (_, [Slot { low, high, .. }]) => write!(f, "{low} to {high}"),
+            (_, [starts, lengths, assortments]) => write!(
+                f,
+                "by turns a start of {} to {}, a length of {} to {} and an assortment of {} to {}",
+                starts.low,
+                starts.high,
+                lengths.low,
+                lengths.high,
+                assortments.low,
+                assortments.high
+            ),
             (_, [starts, grades, ..]) => write!(
                 f,
                 "by turns a start of {} to {} and a grade of {} to {}",
@@ -68,6 +78,13 @@ impl Part<'_> {
             Count::Pairs(most) => {
                 let most = most.saturating_mul(2);
                 write!(f, "at most {most} numbers, by turns a start and a grade")
+            }
+            Count::Triples(most) => {
+                let most = most.saturating_mul(3);
+                write!(
+                    f,
+                    "at most {most} numbers, by turns a start, a length and an assortment"
+                )
             }
             Count::Classes => write!(f, "one number for each lower diameter and length"),
             _ => write!(f, "one number"),
