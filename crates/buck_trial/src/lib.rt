@@ -25,7 +25,6 @@ mod wishes;
 
 pub use buck_draws::Draws;
 pub use buck_terms::TermsFault;
-pub use moved::moved_targets;
 pub use onlooker::RunOnlooker;
 pub use owned::{OwnedFiles, run_owned, serve_owned};
 pub use reading::Opened;
