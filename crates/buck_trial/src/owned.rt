@@ -49,7 +49,7 @@ use std::{io, thread};
 pub struct OwnedFiles<F> {
     /// Those of a trial.
     pub files: Opened<F>,
-    /// That of the owner's instruction.
+    /// That of the owner's instruction, and its number, from 0 for the instruction file.
     pub own: (F, u32),
 }
 
