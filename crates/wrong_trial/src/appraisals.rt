@@ -6,7 +6,7 @@ ghost use Rattle.buck_book.specs.History.{IsLawful};
 ghost use Rattle.buck_book.specs.declared.posting.Posting.{Posting};
 ghost use Rattle.buck_book.specs.declared.posting.TheConstants.{MOST_POSTINGS};
 ghost use Rattle.buck_journal.specs.judging.Replay.{history_of};
-ghost use Rattle.buck_figures.specs.Figures.{AreUnsteered, at_base_in, cuts_in, logs_in, volume_in, worth_in};
+ghost use Rattle.buck_figures.specs.Figures.{AreUnsteered, at_base_in, cuts_in, logs_in, volume_in};
 ghost use Rattle.buck_figures.specs.Journals.{postings_of};
 ghost use Rattle.buck_figures.specs.Owns.{own_of};
 ghost use Rattle.buck_terms.specs.Own.{HasShapeOf};
@@ -197,25 +197,6 @@ pub fn appraise_has_the_cut_logs_as_the_best(
             let wrong = made.assortments[assortment].logs;
             prove!(right != wrong);
         }
-    }
-}
-
-/// Logs are paid at the prices under which they were cut, and not at the owner's.
-pub fn appraise_pays_at_the_prices_in_force(
-    alloc: Global,
-    own: Instruction,
-    journals: &[Journal],
-    wrong: u128,
-)
-    requires few { length (postings_of journals.now) ≤ MOST_POSTINGS }
-    requires lawful { (i : InstructionParts) × HasShapeOf i own × All (λ j. IsLawful (history_of i j)) journals.now }
-    requires wrong { wrong ≡ sum_by worth_in (postings_of journals.now) }
-    requires prices { (bought : List Posting) → AreAllBought own (postings_of journals.now) bought
-        → sum_by (at_base_in own) bought ≢ wrong }
-{
-    if let Ok(made) = appraise(alloc, own, journals) {
-        let right = made.total.cut.worth;
-        prove!(right != wrong);
     }
 }
 
