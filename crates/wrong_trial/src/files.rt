@@ -1,11 +1,19 @@
 //! Wrong bodies of files that are read beside an instruction, and of what is said of them.
+ghost use Rattle.std.specs.Prelude.{◌≡◌, IfSome, List, Ok, Some, ℕ};
+ghost use Rattle.buck_apt.specs.Apt.{apt_of};
+ghost use Rattle.buck_apt.specs.Instruction.{InstructionParts};
+ghost use Rattle.buck_terms.specs.Targets.{HasTargets};
+ghost use Rattle.buck_trial.specs.Inputs.{held_with};
+
 use buck_apt::Instruction;
 use buck_engine::{EngineFault, Open};
 use buck_terms::{
     TargetsFault, TermsFault, conclude_terms, open_last, open_more, read_own, read_wanted, status,
     write_terms_fault,
 };
+use buck_trial::{Opened, OwnedFiles, TrialTask, run_owned};
 use std::alloc::Global;
+use std::thread::Threads;
 
 /// Behind three other files, the last is told as file 4: the instruction is counted as file 1.
 pub fn last_file_counted_from_1<O: Open>(opener: &mut O, name: &str) {
@@ -86,4 +94,53 @@ pub fn good_run_told(alloc: Global) {
     let mut right = Vec::new(alloc);
     let _status = conclude_terms(&mut right, &Ok(()));
     prove!(right.is_empty());
+}
+
+/// An instruction, one stem file, a file of targets and an owner's contract, open.
+fn opened<'x>(
+    alloc: Global,
+    apt: &'x [u8],
+    stm: &'x [u8],
+    targets: &'x [u8],
+    own: &'x [u8],
+) -> Option<OwnedFiles<&'x [u8]>>
+    ensures apt { IfSome result (λ o. o.files.apt.now ≡ apt.now) }
+    ensures targets { IfSome result (λ o. held_with (λ s. Some s.now) o.files.targets ≡ Some (Some targets.now, 2)) }
+{
+    let mut stms = Vec::new(alloc);
+    let Ok(()) = stms.push(stm) else {
+        return None;
+    };
+    Some(OwnedFiles {
+        files: Opened {
+            apt,
+            stms,
+            targets: Some((targets, 2)),
+        },
+        own: (own, 3),
+    })
+}
+
+/// A contract that is refused is told, though the file of targets has none for the instruction.
+pub fn contract_told_before_the_targets<'x, T: Threads + Sync>(
+    rt: &T,
+    alloc: Global,
+    task: &TrialTask<'_>,
+    apt: &'x [u8],
+    stm: &'x [u8],
+    targets: &'x [u8],
+    own: &'x [u8],
+    out: &mut Vec<u8>,
+)
+    requires refused { (i : InstructionParts) (wanted : List ℕ) → apt_of apt.now ≡ Ok i → HasTargets i targets.now wanted
+        → ⊥ }
+{
+    let Some(files) = opened(alloc, apt, stm, targets, own) else {
+        return;
+    };
+    let outcome = run_owned(rt, alloc, task, files, out);
+    if let Err(TermsFault::Own(_why)) = outcome {
+        let is_told = true;
+        prove!(!is_told);
+    }
 }
