@@ -1,4 +1,5 @@
 //! Standard input and standard output in the place of files.
+use crate::known::{Known, LIMIT};
 use crate::teller::Teller;
 use buck_apt::Instruction;
 use buck_engine::{EngineFault, Make, Open};
@@ -22,11 +23,17 @@ pub(crate) struct Copied {
 }
 
 impl Copied {
+    /// Keeps what was read. Where there is no room for it, that grows by what is missing, and at least by an eighth.
     fn keep(&mut self, bytes: &[u8]) {
         self.count = self.count.saturating_add(bytes.len() as u64);
-        if self.is_whole && self.bytes.extend_from_slice(bytes).is_err() {
-            self.is_whole = false;
+        if !self.is_whole {
+            return;
         }
+        let kept = self.bytes.len();
+        if self.bytes.capacity().saturating_sub(kept) < bytes.len() {
+            self.is_whole = self.bytes.reserve_exact(bytes.len().max(kept / 8)).is_ok();
+        }
+        self.is_whole = self.is_whole && self.bytes.extend_from_slice(bytes).is_ok();
     }
 
     /// What was read, where all of it was kept.
@@ -49,14 +56,32 @@ impl Copied {
 pub(crate) struct Kept {
     alloc: Global,
     is_wanted: Cell<bool>,
+    /// How many bytes the inputs have, as far as that is known.
+    sizes: Vec<usize>,
     inputs: RefCell<Vec<Copied>>,
 }
 
+/// How many bytes are kept of the input of a name, where that is known; else 0.
+fn size_of<A: Known>(name: &str, known: &A) -> usize {
+    match known.size(name) {
+        Some(size) if name != DASH => size.min(LIMIT) as usize,
+        _ => 0,
+    }
+}
+
 impl Kept {
-    pub(crate) fn none(alloc: Global, is_wanted: bool) -> Kept {
+    /// What is to be kept of inputs of these names, where that is wanted: nothing yet.
+    pub(crate) fn of<A: Known>(alloc: Global, names: &[&str], known: &A, is_wanted: bool) -> Kept {
+        let mut sizes = Vec::new(alloc);
+        for name in names {
+            if !is_wanted || sizes.push(size_of(*name, known)).is_err() {
+                break;
+            }
+        }
         Kept {
             alloc,
             is_wanted: Cell::new(is_wanted),
+            sizes,
             inputs: RefCell::new(Vec::new(alloc)),
         }
     }
@@ -68,12 +93,15 @@ impl Kept {
         }
         let mut inputs = self.inputs.try_borrow_mut().ok()?;
         let place = inputs.len();
-        let copied = Copied {
+        let mut copied = Copied {
             bytes: Vec::new(self.alloc),
             is_whole: true,
             count: 0,
             refused: None,
         };
+        if let Some(size) = self.sizes.get(place) {
+            copied.is_whole = copied.bytes.reserve_exact(*size).is_ok();
+        }
         if inputs.push(copied).is_err() {
             // Those that are opened after it would stand in wrong places.
             self.is_wanted.set(false);

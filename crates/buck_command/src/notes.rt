@@ -9,18 +9,14 @@ use buck_reason::{Quoted, Several, Shown};
 use buck_record::Memory;
 use buck_rule::NamedRule;
 use buck_stem::read_stm;
-use std::alloc::{AllocError, Global};
 use std::fmt;
 
 /// Whether work cuts the stems of files.
 fn cuts_files(work: &Work<'_>) -> bool {
-    match work {
-        Work::Plain(Task::Bare) => true,
-        Work::Plain(Task::Buck { .. }) => true,
-        Work::Buck(_) => true,
-        Work::Fleet(_) => true,
-        _ => false,
-    }
+    matches!(
+        work,
+        Work::Plain(Task::Bare | Task::Buck { .. }) | Work::Buck(_) | Work::Fleet(_)
+    )
 }
 
 /// Whether work moves prices by what was cut.
@@ -86,10 +82,10 @@ impl<'a, A: Known> Inquest<'a, A> {
     }
 
     /// The stems of all files that were cut; none where they weren't kept.
-    fn felled(&self, alloc: Global) -> Result<Option<Felled>, Memory> {
+    fn felled(&self) -> Result<Option<Felled>, Memory> {
         let mut felled = Felled {
-            marks: Marks::none(alloc),
-            files: Vec::new(alloc),
+            marks: Marks::none(self.alloc),
+            files: Vec::new(self.alloc),
         };
         let first = self.subject.others;
         let end = first.saturating_add(self.subject.stem_files().max(1));
@@ -97,7 +93,7 @@ impl<'a, A: Known> Inquest<'a, A> {
             let Some(source) = self.source(file) else {
                 return Ok(None);
             };
-            let Ok(stems) = read_stm(alloc, source.bytes) else {
+            let Ok(stems) = read_stm(self.alloc, source.bytes) else {
                 return Ok(None);
             };
             felled.marks.add(stems.as_slice())?;
@@ -107,120 +103,99 @@ impl<'a, A: Known> Inquest<'a, A> {
     }
 
     /// That an assortment has the name of another.
-    fn name_note(&self, alloc: Global, instruction: &Instruction) -> Result<String, AllocError> {
-        let Some(at) = first_namesake(instruction) else {
-            return Ok(String::new(alloc));
-        };
-        let Some(assortment) = instruction.assortments().get(at) else {
-            return Ok(String::new(alloc));
-        };
-        let file = Shown(self.name(0).as_bytes());
-        let name = Quoted(assortment.name());
-        format!(in alloc; "note: {file}: assortment {at} {name}: an earlier one has its name too\n")
-    }
-
-    /// That no assortment takes the species of a stem.
-    fn species_note(
-        &self,
-        alloc: Global,
-        instruction: &Instruction,
-        felled: &Felled,
-    ) -> Result<String, AllocError> {
-        let species = felled.marks.species.as_slice();
-        let Some(at) = first_untaken(instruction, species) else {
-            return Ok(String::new(alloc));
-        };
-        let stem = self.stem_at(felled, at);
-        let species = species.get(at).copied().unwrap_or(0);
-        format!(in alloc; "note: {stem}: no assortment takes its species, {species}\n")
-    }
-
-    /// That the number of a stem stands twice.
-    fn number_note(&self, alloc: Global, felled: &Felled) -> Result<String, Memory> {
-        let Some(at) = first_again(alloc, felled.marks.numbers.as_slice())? else {
-            return Ok(String::new(alloc));
-        };
-        let stem = self.stem_at(felled, at);
-        Ok(format!(in alloc; "note: {stem}: an earlier stem has its number too\n")?)
-    }
-
-    /// That the first period is as long as the list of all stems, or longer.
-    fn period_note(
-        &self,
-        alloc: Global,
-        instruction: &Instruction,
-        felled: &Felled,
-    ) -> Result<String, AllocError> {
-        let stems = felled.marks.numbers.len();
-        let period = instruction.period();
-        if !is_unsteered(stems, period) {
-            return Ok(String::new(alloc));
+    fn name_note(&self, out: &mut String, instruction: &Instruction) -> Result<(), Memory> {
+        let all = instruction.assortments();
+        let again = first_namesake(instruction);
+        if let Some((at, assortment)) = again.and_then(|at| Some((at, all.get(at)?))) {
+            let file = Shown(self.name(0).as_bytes());
+            let name = Quoted(assortment.name());
+            write!(
+                out,
+                "note: {file}: assortment {at} {name}: an earlier one has its name too\n"
+            )?;
         }
-        format!(in alloc;
-            "note: {}, and a period of {period}: no price moves before all are cut\n",
-            Several(stems, "stem")
-        )
+        Ok(())
+    }
+
+    /// That no assortment takes the species of a stem, that its number stands twice, or that the first period is as
+    /// long as the list of all stems, or longer.
+    fn stem_notes(
+        &self,
+        out: &mut String,
+        instruction: &Instruction,
+        is_steered: bool,
+    ) -> Result<(), Memory> {
+        let Some(felled) = self.felled()? else {
+            return Ok(());
+        };
+        let species = felled.marks.species.as_slice();
+        if let Some(at) = first_untaken(instruction, species) {
+            let stem = self.stem_at(&felled, at);
+            let species = species.get(at).copied().unwrap_or(0);
+            write!(
+                out,
+                "note: {stem}: no assortment takes its species, {species}\n"
+            )?;
+        }
+        let numbers = felled.marks.numbers.as_slice();
+        if let Some(at) = first_again(self.alloc, numbers)? {
+            let stem = self.stem_at(&felled, at);
+            write!(out, "note: {stem}: an earlier stem has its number too\n")?;
+        }
+        let period = instruction.period();
+        if is_steered && is_unsteered(numbers.len(), period) {
+            let stems = Several(numbers.len(), "stem");
+            write!(
+                out,
+                "note: {stems}, and a period of {period}: no price moves before all are cut\n"
+            )?;
+        }
+        Ok(())
     }
 
     /// That a journal is too long to be read again.
-    fn journal_note(&self, alloc: Global) -> Result<String, AllocError> {
+    fn journal_note(&self, out: &mut String) -> Result<(), Memory> {
         let Some(name) = self.subject.out else {
-            return Ok(String::new(alloc));
+            return Ok(());
         };
         let bytes = self.known.size(name).unwrap_or(0);
-        if !is_too_long(bytes) {
-            return Ok(String::new(alloc));
+        if is_too_long(bytes) {
+            let name = Shown(name.as_bytes());
+            write!(
+                out,
+                "note: {name}: {bytes} bytes: check, report, view and table read at most 67108864\n"
+            )?;
         }
-        let name = Shown(name.as_bytes());
-        format!(in alloc;
-            "note: {name}: {bytes} bytes: check, report, view and table read at most 67108864\n"
-        )
+        Ok(())
     }
 
     /// That a journal is named twice.
-    fn twice_note(&self, alloc: Global) -> Result<String, AllocError> {
+    fn twice_note(&self, out: &mut String) -> Result<(), Memory> {
         let names = self.subject.names.as_slice();
         for at in 1..names.len().min(self.subject.journals.saturating_add(1)) {
             let name = names[at];
             if names[1..at].contains(&name) {
                 let name = Shown(name.as_bytes());
-                return format!(in alloc;
+                write!(
+                    out,
                     "note: {name}: a journal that is named twice counts twice\n"
-                );
+                )?;
+                break;
             }
         }
-        Ok(String::new(alloc))
-    }
-
-    /// What is noted of the stems of files.
-    fn stem_notes(
-        &self,
-        alloc: Global,
-        instruction: &Instruction,
-        is_steered: bool,
-    ) -> Result<String, Memory> {
-        let mut out = String::new(alloc);
-        let Some(felled) = self.felled(alloc)? else {
-            return Ok(out);
-        };
-        out.push_str(self.species_note(alloc, instruction, &felled)?.as_str())?;
-        out.push_str(self.number_note(alloc, &felled)?.as_str())?;
-        if is_steered {
-            out.push_str(self.period_note(alloc, instruction, &felled)?.as_str())?;
-        }
-        Ok(out)
+        Ok(())
     }
 
     /// What is noted behind some work, a line for each note. Refused as `Memory` alone.
-    pub(crate) fn notes(&self, alloc: Global, work: &Work<'_>) -> Result<String, Memory> {
-        let mut out = self.journal_note(alloc)?;
-        out.push_str(self.twice_note(alloc)?.as_str())?;
-        let Some(instruction) = self.instruction(alloc) else {
-            return Ok(out);
-        };
-        out.push_str(self.name_note(alloc, &instruction)?.as_str())?;
-        if cuts_files(work) {
-            out.push_str(self.stem_notes(alloc, &instruction, steers(work))?.as_str())?;
+    pub(crate) fn notes(&self, work: &Work<'_>) -> Result<String, Memory> {
+        let mut out = String::new(self.alloc);
+        self.journal_note(&mut out)?;
+        self.twice_note(&mut out)?;
+        if let Some(instruction) = self.instruction() {
+            self.name_note(&mut out, &instruction)?;
+            if cuts_files(work) {
+                self.stem_notes(&mut out, &instruction, steers(work))?;
+            }
         }
         Ok(out)
     }

@@ -5,7 +5,7 @@ use crate::subject::Subject;
 use buck_apt::{AptFault, Instruction, Settings, read_apt};
 use buck_engine::{CheckFault, EngineFault};
 use buck_journal::{Journal, JournalFault, ReplayFault, read_journal};
-use buck_reason::{Shown, Source, apt_reason, journal_reason, stm_reason};
+use buck_reason::{Here, Said, Source, apt_reason, journal_reason, stm_reason};
 use buck_record::Memory;
 use buck_replay_reason::{Mispriced, Tied, Unlawful, WrongTargets, replay_reason, rule_reason};
 use buck_stem::{StmFault, read_stm};
@@ -17,6 +17,7 @@ use std::sync::Arc;
 /// What is known of a run that ended.
 #[derive(Drop)]
 pub(crate) struct Inquest<'a, A> {
+    pub(crate) alloc: Global,
     pub(crate) subject: &'a Subject<'a>,
     /// What was read of its inputs, in the order in which they were opened.
     pub(crate) copies: &'a [Copied],
@@ -79,89 +80,77 @@ impl<'a, A: Known> Inquest<'a, A> {
         Some(Source::of_file(self.name(file).as_bytes(), self.bytes(file)?))
     }
 
-    /// Why the instruction is refused.
-    fn apt_reason(&self, alloc: Global, fault: &AptFault) -> Result<Option<String>, Memory> {
-        match self.source(0) {
-            Some(source) => Ok(apt_reason(alloc, &source, fault)?),
-            None => Ok(None),
+    /// The file of a number, by its name.
+    fn here(&self, file: usize) -> Here<'a> {
+        Here {
+            name: self.name(file).as_bytes(),
+            line: None,
         }
     }
 
+    /// Why an instruction is refused.
+    fn apt_reason(&self, file: usize, fault: &AptFault) -> Said {
+        self.source(file)
+            .map_or(Ok(None), |source| apt_reason(self.alloc, &source, fault))
+    }
+
     /// Why a stem file is refused.
-    fn stm_reason(
-        &self,
-        alloc: Global,
-        file: usize,
-        fault: &StmFault,
-    ) -> Result<Option<String>, Memory> {
+    fn stm_reason(&self, file: usize, fault: &StmFault) -> Said {
         match self.source(file) {
-            Some(source) => Ok(stm_reason(alloc, &source, fault)?),
-            None if self.subject.is_bare() && self.bytes(0).is_some() => Ok(Some(format!(in alloc;
-                "standard input: no | between the instruction and the stems\n"
-            )?)),
+            Some(source) => stm_reason(self.alloc, &source, fault),
+            None if self.subject.is_bare() && self.bytes(0).is_some() => self
+                .here(0)
+                .say(self.alloc, "no | between the instruction and the stems"),
             None => Ok(None),
         }
     }
 
     /// Why a journal is refused.
-    fn journal_reason(
-        &self,
-        alloc: Global,
-        file: usize,
-        fault: &JournalFault,
-    ) -> Result<Option<String>, Memory> {
-        match self.source(file) {
-            Some(source) => Ok(journal_reason(alloc, &source, fault)?),
-            None => Ok(None),
-        }
+    fn journal_reason(&self, file: usize, fault: &JournalFault) -> Said {
+        self.source(file).map_or(
+            Ok(None),
+            |source| journal_reason(self.alloc, &source, fault),
+        )
     }
 
     /// The instruction of the run, with the numbers that are put in.
-    pub(crate) fn instruction(&self, alloc: Global) -> Option<Instruction> {
-        self.instruction_with(alloc, self.subject.settings)
+    pub(crate) fn instruction(&self) -> Option<Instruction> {
+        self.instruction_with(self.subject.settings)
     }
 
     /// The instruction file's, with these numbers put in, if there are any.
-    fn instruction_with(&self, alloc: Global, settings: Option<&Settings>) -> Option<Instruction> {
-        let own = read_apt(alloc, self.bytes(0)?).ok()?;
+    fn instruction_with(&self, settings: Option<&Settings>) -> Option<Instruction> {
+        let own = read_apt(self.alloc, self.bytes(0)?).ok()?;
         match settings {
             Some(settings) => Some(own.with(settings)),
             None => Some(own),
         }
     }
 
-    /// The numbers that are put in for the journal of a file.
-    fn settings_of(&self, file: usize) -> Option<&'a Settings> {
-        match self.subject.second {
+    /// The instruction of the run, and the journal of the file of a number. A second journal may have settings of its
+    /// own.
+    fn history(&self, file: usize) -> Result<Option<History<'a>>, Memory> {
+        let settings = match self.subject.second {
             Some(settings) if file == 2 => Some(settings),
             _ => self.subject.settings,
-        }
-    }
-
-    /// The instruction of the run, and the journal of the file of a number.
-    fn history(&self, alloc: Global, file: usize) -> Result<Option<History<'a>>, Memory> {
-        let instruction = self.instruction_with(alloc, self.settings_of(file));
+        };
+        let instruction = self.instruction_with(settings);
         let (Some(instruction), Some(source)) = (instruction, self.source(file)) else {
             return Ok(None);
         };
-        let Ok(journal) = read_journal(alloc, source.bytes) else {
+        let Ok(journal) = read_journal(self.alloc, source.bytes) else {
             return Ok(None);
         };
         Ok(Some(History {
-            instruction: Arc::new(alloc, instruction)?,
+            instruction: Arc::new(self.alloc, instruction)?,
             source,
             journal,
         }))
     }
 
     /// Why the journal of a file isn't lawful.
-    fn replay_reason(
-        &self,
-        alloc: Global,
-        file: usize,
-        fault: &ReplayFault,
-    ) -> Result<Option<String>, Memory> {
-        let Some(history) = self.history(alloc, file)? else {
+    fn replay_reason(&self, file: usize, fault: &ReplayFault) -> Said {
+        let Some(history) = self.history(file)? else {
             return Ok(None);
         };
         let unlawful = Unlawful {
@@ -169,7 +158,7 @@ impl<'a, A: Known> Inquest<'a, A> {
             instruction: &history.instruction,
             journal: &history.journal,
         };
-        replay_reason(alloc, &unlawful, fault)
+        replay_reason(self.alloc, &unlawful, fault)
     }
 
     /// A journal that is held against the stem file of a harvester; none where what was read of that isn't there.
@@ -188,43 +177,21 @@ impl<'a, A: Known> Inquest<'a, A> {
         })
     }
 
-    /// Why a journal isn't that of its rule.
-    fn rule_reason(
-        &self,
-        alloc: Global,
-        history: &History<'a>,
-        mispriced: &Mispriced,
-    ) -> Result<Option<String>, Memory> {
-        match self.subject.rule {
-            Some(rule) => rule_reason(
-                alloc,
-                &history.source,
-                &history.instruction,
-                rule.name(),
-                mispriced,
-            ),
-            None => Ok(None),
-        }
-    }
-
     /// Why a lawful journal isn't as asked.
-    fn check_reason(&self, alloc: Global, fault: &CheckFault) -> Result<Option<String>, Memory> {
-        let Some(history) = self.history(alloc, 1)? else {
+    fn check_reason(&self, fault: &CheckFault) -> Said {
+        let Some(history) = self.history(1)? else {
             return Ok(None);
         };
         match *fault {
-            CheckFault::Other { harvester, place } => match self.tied(&history, harvester) {
-                Some(tied) => tied.other(alloc, place),
-                None => Ok(None),
-            },
-            CheckFault::Uncut { harvester, place } => match self.tied(&history, harvester) {
-                Some(tied) => tied.uncut(alloc, place),
-                None => Ok(None),
-            },
-            CheckFault::Surplus { harvester, place } => match self.tied(&history, harvester) {
-                Some(tied) => tied.surplus(alloc, place),
-                None => Ok(None),
-            },
+            CheckFault::Other { harvester, place } => self
+                .tied(&history, harvester)
+                .map_or(Ok(None), |tied| tied.other(self.alloc, place)),
+            CheckFault::Uncut { harvester, place } => self
+                .tied(&history, harvester)
+                .map_or(Ok(None), |tied| tied.uncut(self.alloc, place)),
+            CheckFault::Surplus { harvester, place } => self
+                .tied(&history, harvester)
+                .map_or(Ok(None), |tied| tied.surplus(self.alloc, place)),
             CheckFault::Price {
                 version,
                 class,
@@ -237,27 +204,40 @@ impl<'a, A: Known> Inquest<'a, A> {
                     price,
                     wanted,
                 };
-                self.rule_reason(alloc, &history, &mispriced)
+                self.rule_reason(&history, &mispriced)
             }
         }
     }
 
-    /// A file with a reason why it can't be read or written.
-    fn troubled(
-        &self,
-        alloc: Global,
-        name: &str,
-        trouble: Trouble,
-    ) -> Result<Option<String>, Memory> {
+    /// Why a journal isn't that of its rule.
+    fn rule_reason(&self, history: &History<'a>, mispriced: &Mispriced) -> Said {
+        let Some(rule) = self.subject.rule else {
+            return Ok(None);
+        };
+        rule_reason(
+            self.alloc,
+            &history.source,
+            &history.instruction,
+            rule.name(),
+            mispriced,
+        )
+    }
+
+    /// That a file can't be read or written, and why.
+    fn troubled(&self, name: &str, trouble: Trouble) -> Said {
         let troubled = Troubled {
             trouble,
             inputs: self.subject.names.as_slice(),
         };
-        Ok(Some(format!(in alloc; "{}: {troubled}\n", Shown(name.as_bytes()))?))
+        let here = Here {
+            name: name.as_bytes(),
+            line: None,
+        };
+        here.say(self.alloc, troubled)
     }
 
     /// Why a file can't be read.
-    fn read_reason(&self, alloc: Global, file: usize) -> Result<Option<String>, Memory> {
+    fn read_reason(&self, file: usize) -> Said {
         let trouble = match self.copies.get(file) {
             Some(copied) if copied.count() > LIMIT => Trouble::Long,
             // A folder stands in the place of an input that is closed.
@@ -268,35 +248,35 @@ impl<'a, A: Known> Inquest<'a, A> {
             }
             None => Trouble::Other,
         };
-        self.troubled(alloc, self.name(file), trouble)
+        self.troubled(self.name(file), trouble)
     }
 
     /// Why the output or the journal can't be written.
-    fn write_reason(&self, alloc: Global) -> Result<Option<String>, Memory> {
+    fn write_reason(&self) -> Said {
         let out = match self.subject.out {
             Some(out) if out != DASH && self.unwritten.is_none() => out,
             _ => {
                 let trouble = self.unwritten.map_or(Trouble::Other, Trouble::of);
-                return self.troubled(alloc, OUTPUT, trouble);
+                return self.troubled(OUTPUT, trouble);
             }
         };
         let trouble = match self.known.refused() {
             Some(kind) => Some(Trouble::of(kind)),
             None => self.known.unwritten(out, self.subject.names.as_slice()),
         };
-        self.troubled(alloc, out, trouble.unwrap_or(Trouble::Other))
+        self.troubled(out, trouble.unwrap_or(Trouble::Other))
     }
 
     /// That there are too many stem files, or none.
-    fn seats_reason(&self, alloc: Global) -> Result<Option<String>, Memory> {
+    fn seats_reason(&self) -> Said {
         let files = self.subject.stem_files();
-        Ok(Some(format!(in alloc; "{files} stem files, 1 to 64 wanted\n")?))
+        Ok(Some(format!(in self.alloc; "{files} stem files, 1 to 64 wanted\n")?))
     }
 
     /// That there are too many stems, or postings.
-    fn full_reason(&self, alloc: Global) -> Result<Option<String>, Memory> {
+    fn full_reason(&self) -> Said {
         if self.subject.journals > 1 {
-            return Ok(Some(format!(in alloc; "more than 1000000 postings together\n")?));
+            return Ok(Some(format!(in self.alloc; "more than 1000000 postings together\n")?));
         }
         let mut stems = 0usize;
         let first = self.subject.others;
@@ -306,7 +286,7 @@ impl<'a, A: Known> Inquest<'a, A> {
             };
             stems = stems.saturating_add(source.stems());
         }
-        Ok(Some(format!(in alloc; "{stems} stems, at most 1000000 wanted\n")?))
+        Ok(Some(format!(in self.alloc; "{stems} stems, at most 1000000 wanted\n")?))
     }
 
     /// The number of a file of targets, which comes behind the stem files.
@@ -322,98 +302,92 @@ impl<'a, A: Known> Inquest<'a, A> {
     }
 
     /// Why an owner's instruction, which is the last file, is refused.
-    fn own_reason(&self, alloc: Global, fault: &OwnFault) -> Result<Option<String>, Memory> {
+    fn own_reason(&self, fault: &OwnFault) -> Said {
         let file = self.last_file();
-        let name = Shown(self.name(file).as_bytes());
+        let here = self.here(file);
         match fault {
-            OwnFault::Refused(fault) => match self.source(file) {
-                Some(source) => Ok(apt_reason(alloc, &source, fault)?),
-                None => Ok(None),
-            },
-            OwnFault::Whole { number, kind } => Ok(Some(format!(in alloc;
-                "{name}: item {number} {kind} is not that of the instruction\n"
-            )?)),
+            OwnFault::Refused(fault) => self.apt_reason(file, fault),
+            OwnFault::Whole { number, kind } => here.say(
+                self.alloc,
+                format_args!("item {number} {kind} is not that of the instruction"),
+            ),
             OwnFault::Part {
                 number,
                 kind,
                 assortment,
-            } => Ok(Some(format!(in alloc;
-                "{name}: item {number} {kind} of assortment {assortment} is not that of the instruction\n"
-            )?)),
+            } => here.say(
+                self.alloc,
+                format_args!(
+                    "item {number} {kind} of assortment {assortment} is not that of the instruction"
+                ),
+            ),
         }
     }
 
-    /// Which of the targets of the last file may not be put in.
-    fn wrong_targets(&self, alloc: Global) -> Result<Option<String>, Memory> {
-        let file = self.targets_file();
-        let (Some(instruction), Some(bytes)) = (self.instruction(alloc), self.bytes(file)) else {
+    /// Which of the targets of a file may not be put in.
+    fn wrong_targets(&self, file: usize) -> Said {
+        let (Some(instruction), Some(bytes)) = (self.instruction(), self.bytes(file)) else {
             return Ok(None);
         };
-        let Ok(targets) = all_numbers(alloc, bytes) else {
+        let Ok(targets) = all_numbers(self.alloc, bytes) else {
             return Ok(None);
         };
-        let name = Shown(self.name(file).as_bytes());
         let wrong = WrongTargets {
             instruction: &instruction,
             targets: targets.as_slice(),
         };
-        Ok(Some(format!(in alloc; "{name}: {wrong}\n")?))
+        self.here(file).say(self.alloc, wrong)
     }
 
     /// Why a file of targets is refused.
-    fn targets_reason(
-        &self,
-        alloc: Global,
-        fault: &TargetsFault,
-    ) -> Result<Option<String>, Memory> {
-        let name = Shown(self.name(self.targets_file()).as_bytes());
+    fn targets_reason(&self, fault: &TargetsFault) -> Said {
+        let file = self.targets_file();
+        let here = self.here(file);
         match fault {
-            TargetsFault::Count => Ok(Some(format!(in alloc;
-                "{name}: one list of targets (918 1) for each assortment, with a number for each class, wanted\n"
-            )?)),
+            TargetsFault::Count => here.say(
+                self.alloc,
+                "one list of targets (918 1) for each assortment, with a number for each class, wanted",
+            ),
             TargetsFault::Head { item } => {
-                Ok(Some(format!(in alloc; "{name}: item {item} has no head\n")?))
+                here.say(self.alloc, format_args!("item {item} has no head"))
             }
-            TargetsFault::Digits { list, .. } => Ok(Some(format!(in alloc;
-                "{name}: list {list} of targets has a word that is no number\n"
-            )?)),
-            TargetsFault::Range { .. } | TargetsFault::Sum { .. } => self.wrong_targets(alloc),
+            TargetsFault::Digits { list, .. } => here.say(
+                self.alloc,
+                format_args!("list {list} of targets has a word that is no number"),
+            ),
+            TargetsFault::Range { .. } | TargetsFault::Sum { .. } => self.wrong_targets(file),
             TargetsFault::Memory => Ok(None),
         }
     }
 
     /// What was wrong in a run that ended with this fault, in lines of text; none where that isn't known. Refused as
     /// `Memory` alone.
-    pub(crate) fn reason(
-        &self,
-        alloc: Global,
-        fault: &TermsFault,
-    ) -> Result<Option<String>, Memory> {
+    pub(crate) fn reason(&self, fault: &TermsFault) -> Said {
         match fault {
-            TermsFault::Run(fault) => self.run_reason(alloc, fault),
-            TermsFault::Targets(fault) => self.targets_reason(alloc, fault),
-            TermsFault::Own(fault) => self.own_reason(alloc, fault),
+            TermsFault::Run(fault) => self.run_reason(fault),
+            TermsFault::Targets(fault) => self.targets_reason(fault),
+            TermsFault::Own(fault) => self.own_reason(fault),
         }
     }
 
     /// Why a run failed by a fault that any run may have.
-    fn run_reason(&self, alloc: Global, fault: &EngineFault) -> Result<Option<String>, Memory> {
+    fn run_reason(&self, fault: &EngineFault) -> Said {
         match fault {
-            EngineFault::Read { file } => self.read_reason(alloc, *file as usize),
-            EngineFault::Write => self.write_reason(alloc),
-            EngineFault::Apt(fault) => self.apt_reason(alloc, fault),
-            EngineFault::Stm { file, fault } => self.stm_reason(alloc, *file as usize, fault),
-            EngineFault::Journal(fault) => self.journal_reason(alloc, 1, fault),
+            EngineFault::Read { file } => self.read_reason(*file as usize),
+            EngineFault::Write => self.write_reason(),
+            EngineFault::Apt(fault) => self.apt_reason(0, fault),
+            EngineFault::Stm { file, fault } => self.stm_reason(*file as usize, fault),
+            EngineFault::Journal(fault) => self.journal_reason(1, fault),
             EngineFault::JournalOf { journal, fault } => {
-                self.journal_reason(alloc, *journal as usize, fault)
+                self.journal_reason(*journal as usize, fault)
             }
-            EngineFault::Replay(fault) => self.replay_reason(alloc, 1, fault),
+            EngineFault::Replay(fault) => self.replay_reason(1, fault),
             EngineFault::ReplayOf { journal, fault } => {
-                self.replay_reason(alloc, *journal as usize, fault)
+                self.replay_reason(*journal as usize, fault)
             }
-            EngineFault::Check(fault) => self.check_reason(alloc, fault),
-            EngineFault::Seats => self.seats_reason(alloc),
-            EngineFault::Full => self.full_reason(alloc),
+            EngineFault::Check(fault) => self.check_reason(fault),
+            EngineFault::Seats => self.seats_reason(),
+            EngineFault::Full => self.full_reason(),
             EngineFault::Close(_) | EngineFault::Memory => Ok(None),
         }
     }

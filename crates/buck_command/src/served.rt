@@ -109,7 +109,6 @@ fn serve_lent<
 
 /// Says on the screen what is noted behind the work, where that isn't to be quiet.
 fn say_notes<A: Known, E: io::Write, S: io::Write + Copy + Drop, C: Copy + Drop>(
-    alloc: Global,
     request: &Request<'_>,
     teller: &Teller<'_, E, S, C>,
     inquest: &Inquest<'_, A>,
@@ -117,7 +116,7 @@ fn say_notes<A: Known, E: io::Write, S: io::Write + Copy + Drop, C: Copy + Drop>
     if request.quiet || teller.screen.is_none() {
         return;
     }
-    if let Ok(text) = inquest.notes(alloc, &request.work) {
+    if let Ok(text) = inquest.notes(&request.work) {
         teller.show(text.as_str());
     }
 }
@@ -147,7 +146,8 @@ pub(crate) fn serve_told<
     };
     let Place { files, known } = place;
     let teller = Teller::of(alloc, &mut streams.errors, request.explain, screen);
-    let inlet = Inlet::of(&mut streams.input, Kept::none(alloc, teller.is_told()));
+    let kept = Kept::of(alloc, subject.names.as_slice(), &known, teller.is_told());
+    let inlet = Inlet::of(&mut streams.input, kept);
     let outlet = Outlet::of(&mut streams.output);
     let outcome = serve_lent(rt, alloc, request, files, &inlet, &outlet, &teller);
     let outcome = told(outcome, known.refused());
@@ -156,15 +156,16 @@ pub(crate) fn serve_told<
     }
     let copies = inlet.into_copies();
     let inquest = Inquest {
+        alloc,
         subject: &subject,
         copies: copies.as_slice(),
         unwritten: outlet.refused(),
         known: &known,
     };
     match &outcome {
-        Ok(()) => say_notes(alloc, request, &teller, &inquest),
+        Ok(()) => say_notes(request, &teller, &inquest),
         Err(fault) if teller.is_told() => {
-            if let Ok(Some(text)) = inquest.reason(alloc, fault) {
+            if let Ok(Some(text)) = inquest.reason(fault) {
                 teller.say(text.as_str());
             }
         }
