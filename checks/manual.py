@@ -37,7 +37,7 @@ TRIES = [
     ("fleet --period ", ""),
     ("fleet --journal pine.o", "pine.out"),
     ("check two_stems.", "two_stems.apt two_stems.jrn"),
-    ("table two_stems.apt two_stems.jrn l", "logs lacking"),
+    ("table two_stems.apt two_stems.jrn l", "logs lacking live_loop.py"),
     ("explain ", ""),
 ]
 
