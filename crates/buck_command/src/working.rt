@@ -11,7 +11,8 @@ use buck_live::{LiveTask, Replies, serve_live};
 use buck_sweep::{SweepTask, serve_sweep};
 use buck_terms::TermsFault;
 use buck_trial::{
-    OwnedTask, RunOnlooker, TrialTask, TuneTask, WishesTask, serve_owned, serve_trial, serve_tune, serve_wishes,
+    OwnedTask, RunOnlooker, TrialTask, TuneTask, WishesTask, serve_owned, serve_trial, serve_tune,
+    serve_wishes,
 };
 use std::alloc::Global;
 use std::io;
