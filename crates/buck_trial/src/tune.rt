@@ -16,9 +16,10 @@ use crate::reading::{Opened, of_run, open_files, read_files};
 use crate::task::TuneTask;
 use buck_apt::instruction_text;
 use buck_book::{Parts, Posting};
-use buck_engine::{EngineFault, Input, Open, write_text};
+use buck_engine::{EngineFault, Input, Onlooker, Open, write_text};
 use buck_figures::number_at;
 use buck_record::Memory;
+use buck_stem::Stem;
 use buck_terms::TermsFault;
 use buck_value::Sheet;
 use buck_words::half_up;
@@ -95,13 +96,28 @@ pub fn tuned_prices(alloc: Global, parts: &Parts) -> Result<Vec<u32>, Memory>
     Ok(prices)
 }
 
+/// How many stems lists have, which is told alone.
+fn number_of(lists: &[Vec<Arc<Stem>>]) -> usize {
+    let mut number = 0usize;
+    for list in lists {
+        number = number.saturating_add(list.len());
+    }
+    number
+}
+
 /// The text of the instruction that files say, tuned on their stems.
-fn text_of(alloc: Global, task: &TuneTask<'_>, input: &Input) -> Result<Vec<u8>, EngineFault>
+fn text_of<L: Onlooker>(
+    alloc: Global,
+    task: &TuneTask<'_>,
+    onlooker: &L,
+    input: &Input,
+) -> Result<Vec<u8>, EngineFault>
     requires few { length input.now.lists.items ≤ 64 }
     ensures ok { IfOk result (λ text. IsTunedText task.now.rule task.now.settings input.now.instruction
         input.now.lists.items text.items) }
     ensures stop { IfErr result (IsStop input.now.lists.items) }
 {
+    onlooker.cutting(number_of(input.lists.as_slice()));
     let own = input.instruction.copy(alloc)?;
     let instruction = Arc::new(alloc, own.with(&task.settings))?;
     let parts = cut_by_name(alloc, &instruction, task.rule, input.lists.as_slice())?;
@@ -111,9 +127,10 @@ fn text_of(alloc: Global, task: &TuneTask<'_>, input: &Input) -> Result<Vec<u8>,
 }
 
 /// Tunes the instruction that files say, and writes it.
-fn write_tuned<W: io::Write>(
+fn write_tuned<L: Onlooker, W: io::Write>(
     alloc: Global,
     task: &TuneTask<'_>,
+    onlooker: &L,
     input: &Input,
     out: &mut W,
 ) -> Result<(), EngineFault>
@@ -121,7 +138,7 @@ fn write_tuned<W: io::Write>(
     ensures { WritesText (AnswersOver input.now.lists.items (IsTunedText task.now.rule task.now.settings
         input.now.instruction input.now.lists.items)) (W.contents out.old) (W.contents out.new) result }
 {
-    let text = text_of(alloc, task, input)?;
+    let text = text_of(alloc, task, onlooker, input)?;
     write_text(out, text.as_slice())
 }
 
@@ -130,9 +147,10 @@ fn write_tuned<W: io::Write>(
 /// force over all stems, rounded to the nearest, a half upwards, and at least 1 and at most 10,000,000. A class that
 /// isn't bought stays so, and without stems all prices stay. The targets are those of the file of targets, where there
 /// is one; the settings are the run's alone. Nothing is written before the whole text is there.
-pub fn run_tune<R: io::Read + Drop, W: io::Write>(
+pub fn run_tune<L: Onlooker, R: io::Read + Drop, W: io::Write>(
     alloc: Global,
     task: &TuneTask<'_>,
+    onlooker: &L,
     files: Opened<R>,
     out: &mut W,
 ) -> Result<(), TermsFault>
@@ -144,14 +162,15 @@ pub fn run_tune<R: io::Read + Drop, W: io::Write>(
         (W.contents out.old) (W.contents out.new) result }
 {
     let input = read_files(alloc, files)?;
-    of_run(write_tuned(alloc, task, &input, out))
+    of_run(write_tuned(alloc, task, onlooker, &input, out))
 }
 
 /// Tunes an instruction over the files of a task's names. The files are opened as by
 /// [`serve_trial`](crate::serve_trial); else the faults are those of [`run_tune`].
-pub fn serve_tune<O: Open, W: io::Write>(
+pub fn serve_tune<L: Onlooker, O: Open, W: io::Write>(
     alloc: Global,
     task: &TuneTask<'_>,
+    onlooker: &L,
     opener: &mut O,
     out: &mut W,
 ) -> Result<(), TermsFault>
@@ -160,5 +179,5 @@ pub fn serve_tune<O: Open, W: io::Write>(
 {
     let stms = task.stms.as_slice();
     let files = open_files(alloc, opener, task.apt, stms, task.targets)?;
-    run_tune(alloc, task, files, out)
+    run_tune(alloc, task, onlooker, files, out)
 }

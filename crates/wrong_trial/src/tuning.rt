@@ -10,6 +10,7 @@ ghost use Rattle.buck_trial.specs.Tune.{tuned_price};
 
 use buck_apt::read_apt;
 use buck_book::Parts;
+use buck_engine::Nobody;
 use buck_trial::{Opened, TuneTask, run_tune, tuned_prices};
 use std::alloc::Global;
 
@@ -134,7 +135,7 @@ pub fn limit_of_the_run_printed<'x>(
         return;
     };
     let mut out = Vec::new(alloc);
-    if let Ok(()) = run_tune(alloc, task, files, &mut out) {
+    if let Ok(()) = run_tune(alloc, task, &Nobody, files, &mut out) {
         if let Ok(right) = read_apt(alloc, out.as_slice()) {
             let right = right.limit();
             let wrong = 50;
