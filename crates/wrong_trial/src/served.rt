@@ -1,7 +1,7 @@
 //! Wrong bodies of whole runs of trials, appraisals and comparisons: which files are opened, and what is written then.
 ghost use Rattle.std.specs.Prelude.{◌≡◌, length, None};
 
-use buck_engine::{Open, Settings};
+use buck_engine::{Nobody, Open, Settings};
 use buck_ledger::{AppraiseTask, CompareTask, serve_appraise, serve_compare};
 use buck_trial::{TrialTask, serve_trial};
 use std::alloc::Global;
@@ -39,7 +39,7 @@ pub fn trial_targets_opened_first<T: Threads + Sync>(rt: &T, alloc: Global, outp
         threads: Some(2),
     };
     let mut files = Missing { asked: 0 };
-    let _ = serve_trial(rt, alloc, &task, &mut files, output);
+    let _ = serve_trial(rt, alloc, &task, &Nobody, &mut files, output);
     let right = files.asked;
     let wrong = "mill.targets".len();
     prove!(right != wrong);
@@ -53,7 +53,7 @@ pub fn trial_written_though_a_file_is_missing<T: Threads + Sync>(
 ) {
     let mut output = Vec::new(alloc);
     let mut files = Missing { asked: 0 };
-    let _ = serve_trial(rt, alloc, task, &mut files, &mut output);
+    let _ = serve_trial(rt, alloc, task, &Nobody, &mut files, &mut output);
     prove!(output.is_empty());
 }
 
