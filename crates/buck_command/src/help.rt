@@ -39,7 +39,7 @@ Exit statuses:
 After 1, 3, 4 and 5, and after too many stem files, one line on standard error
 says what went wrong; explain says it in words, and --explain behind a command
 also what stands in the files. - stands for standard input, and as OUT for
-standard output. See docs/FORMATS.md.";
+standard output. See docs/COMMANDS.md.";
 
 /// What comes out of a bucking, and how it ends.
 pub(crate) const BUCK: &str =
@@ -182,10 +182,10 @@ what went wrong; explain says it in words.";
 pub(crate) const TUNE: &str =
     "Prints the instruction with other base prices: that of a class is the mean of
 its prices in force over all stems, which are cut as by fleet --in-turn. Cut a
-stand like theirs under it within a smaller limit: its prices need not be found
-again there. A class that is not bought stays so. N is for this run alone, and
-the instruction that is printed keeps its own. FILE is that of sweep, and its
-targets are printed. What stands in no table of docs/FORMATS.md is lost.
+stand like theirs under it, and take some four tenths of the usual limit both
+here and there. A class that is not bought stays so. N is for this run alone,
+and the instruction that is printed keeps its own. FILE is that of sweep, and
+its targets are printed. What stands in no table of docs/FORMATS.md is lost.
 
 Examples:
   buckfleet tune --period 1 --limit 50 mill.apt bank.stm > tuned.apt
