@@ -1,4 +1,4 @@
-use Rattle.std.proofs.Common.{◌≡◌, Err, rules}
+use Rattle.std.proofs.Common.{◌≡◌, Err, Some, rules}
 use Rattle.buck_terms.specs.declared.fault.TermsFault.TheVariants.{Targets}
 use Rattle.wrong_trial.proofs.Tables.{targets_not_told}
 use Rattle.wrong_trial.proofs.trials.targets_told_before_a_stem_file.Goals as goal
@@ -8,4 +8,5 @@ prove-unreachable-requires g c =
     let files = c.in-Some.ensures in
     let run = rw (files.apt, files.stms, files.targets) at c.run_trial-outcome.ensures in
     let same : c.run_trial-outcome.result ≡ Err (Targets c.in-Err-Targets._why) = search rules in
-    targets_not_told _ _ _ _ _ _ _ _ c.in-Err-Targets._why run same c.requires.refused
+    targets_not_told _ _ _ _ _ (Some c.args.out.now.items) (Some c.run_trial-outcome.new.out.items) _
+    c.in-Err-Targets._why run same c.requires.refused
