@@ -2,3 +2,4 @@ mod Orders
 mod Tables
 mod Journals
 mod Means
+mod Wanted

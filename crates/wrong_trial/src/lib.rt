@@ -15,3 +15,4 @@ pub mod served;
 pub mod targets;
 pub mod trials;
 pub mod tuning;
+pub mod wishes;
