@@ -162,7 +162,7 @@ pub fn targets_of_the_instruction_printed<'x>(
     };
     files.targets = Some((targets, 2));
     let mut out = Vec::new(alloc);
-    if let Ok(()) = run_tune(alloc, task, files, &mut out) {
+    if let Ok(()) = run_tune(alloc, task, &Nobody, files, &mut out) {
         if let Ok(right) = read_apt(alloc, out.as_slice()) {
             if let Some(right) = right.assortments().first() {
                 if let Some(right) = right.targets().first() {
