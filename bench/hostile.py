@@ -7,10 +7,10 @@ Makes the files in FOLDER, one after the other, and runs the program in its bare
 once as the instruction, and once as the stems behind an instruction that is right. Then it runs the commands over the
 longest files that are accepted: instructions of the most classes, the most stems, the longest stems, stems of the most
 zones, which take minutes of a processor, and journals of the most postings, sheets and bytes, one of them written by a
-fleet; and over an instruction file of blanks, one of a byte too many, and both once more where each read gives one byte,
+fleet; and over an instruction file of blanks, one of a byte too many, and both once more, each read giving one byte,
 which takes some minutes. A line for each run says how long it took, the most memory that it held, also in lengths of
-what it read, its exit status and the first line that it wrote. It ends in status 1 where a run took longer than
---seconds (forty times as long for stems of the most zones, and where each read gives one byte), held more than --times
+what it read, its exit status and the first line that it wrote. It ends in status 1 if a run took longer than
+--seconds (forty times as long for stems of the most zones, and if each read gives one byte), held more than --times
 the length of what it read, with 16 MiB and 2 MiB for each stem file after the first beside that, was ended by a signal,
 or wrote another first line than the one that is known for it.
 
@@ -277,7 +277,7 @@ def kinds_of_wood(_source, _size):
 
 
 def one_of_each_kind(_source, _size):
-    """A stem for each set of grades, of 16 diameters by turns."""
+    """A stem for each set of grades; they take turns at 16 diameters."""
     return b"1 2 STM~" + b"".join(wood(mask, mask % 16) for mask in range(1, 256))
 
 
@@ -370,7 +370,7 @@ def run(program, words, stdin, folder):
 
 
 def run_dripped(program, words, path, folder):
-    """The same where standard input gives a file byte after byte."""
+    """The same if standard input gives a file byte after byte."""
     out, end = os.pipe2(os.O_DIRECT)
     start = time.monotonic()
     child = subprocess.Popen(
@@ -442,7 +442,7 @@ def main():
             paths["j"] = os.path.join(given.folder, "j")
             run(program, FIRST[name], os.devnull, given.folder)
         length = sum(os.path.getsize(paths[word]) for word in [*words, stdin] if word in paths)
-        # Each further seat has a planner of its own, which keeps at most some 2 MiB.
+        # Each further seat has a planner of its own, which keeps some 2 MiB under instructions of few rows.
         most = given.times * length + (16 + 2 * max(words.count("b") - 1, 0)) * 1048576
         if dripped:
             found = run_dripped(program, words, paths[stdin], given.folder)

@@ -5,7 +5,7 @@
 
 `fleet` cuts as many stems of one sample, by one harvester in periods of 1,000, and writes the journal; `check` reads and
 replays it, and `view` shows it. A line for each says how long it took on the wall, the most memory that it held, its exit
-status, how many bytes it wrote, and the last line of them. It ends in status 1 where the journal isn't found lawful.
+status, how many bytes it wrote, and the last line of them. It ends in status 1 if the journal isn't found lawful.
 --number makes another number of cuts.
 """
 import argparse

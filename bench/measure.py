@@ -7,7 +7,7 @@
     python3 bench/measure.py --check --threads 1 2 4  # check of the journal that one harvester writes of the stems
     python3 bench/measure.py --keep FOLDER            # workloads stay in FOLDER, and those that are there are taken
 
-For each workload the programs are run by turns, several times. It prints of the least: seconds, stems a second, and
+For each workload the programs are run alternately, several times. It prints of the least: seconds, stems a second, and
 nanoseconds for each pair of a position and a candidate log; the median of the seconds, and the peak memory. A second
 file of the same stems, but of a species that no assortment takes, tells what reading and writing alone cost; with
 --check, what reading its journal and walking along it cost.
@@ -73,7 +73,7 @@ def workload(out, module, args):
 
 
 def by_turns(commands, times):
-    """Of each command the least and the median of its seconds, and its peak KiB. They are run by turns, so that what
+    """Of each command the least and the median of its seconds, and its peak KiB. They alternate, so that what
     else the machine does falls on all of them."""
     rounds = [[run(words) for words in commands] for _ in range(times)]
     for runs in zip(*rounds):

@@ -7,7 +7,7 @@ It makes a workload (bench/make_workload.py), and lets callgrind count the instr
 once and twice over into one book, by the linear rule: crates/bench_calls, by the planner that is kept, `prepare` and
 `commit`, over stems that were read before; and bench/stems.c, by `buckfleet_cut`, from diameters and zones. Twice less once
 is what the stems cost, with no start and no reading. Both must print the same: entries, sheets, and the worth of all.
-The last line is the ratio; the status is 1 where it is above 1.1. valgrind and a C compiler are wanted, and the library
+The last line is the ratio; the status is 1 if it is above 1.1. valgrind and a C compiler are wanted, and the library
 that scripts/c_library leaves in out/c.
 """
 import argparse

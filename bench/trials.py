@@ -6,7 +6,7 @@
 First 20 draws of three rules over the morning of examples/. Then, over a made harvest, tables of 10 and of 100 runs in one
 thread and in as many as the machine has processors, and the wishes of its instruction. Last a price list of 60 classes is
 tuned on a bank of 3,000 stems, with a period of 1. A line for each says the least seconds that passed, the least of the
-processors together, and the peak memory, which shows as this script's own, some 14 MiB, where it is below that.
+processors together, and the peak memory, which shows as this script's own, some 14 MiB, if it is below that.
 """
 import argparse
 import os

@@ -5,7 +5,7 @@ says one line for each.
     checks/all.py PROGRAM
 
 A line has the check's name, whether it holds, the last line of what it says and how long it took; of one that doesn't hold
-all that it says comes before. The status is 0 where all hold.
+all that it says comes before. The status is 0 if all hold.
 """
 import pathlib
 import subprocess
@@ -20,12 +20,14 @@ RUNS = [
     ("live", ["--bin", "{}"]),
     ("guide", ["{}"]),
     ("manual", ["{}"]),
+    ("faults", ["{}"]),
     ("cut_off", ["{}"]),
     ("valgrind", ["--bin", "{}"]),
     ("reference", ["cases"]),
     ("reference", ["compare", "{}", "--count", "300", "--seed", "1"]),
     ("package", []),
     ("books", ["--bin", "{}"]),
+    ("several", ["--bin", "{}"]),
 ]
 
 

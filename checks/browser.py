@@ -10,8 +10,8 @@ Without pages, those of examples/ are opened. Of each page, at 360, 760 and 1200
 - nothing is wider than the window, but what scrolls in a frame of its own;
 - each text stands out from its ground by a contrast of 4.5 or more, large text by 3 or more.
 
-With --shots, a picture of each is written into the folder, to be looked at. The exit status is 0 where all holds, 1 where
-something doesn't, and 0 too where there is no Chromium, which it says.
+With --shots, a picture of each is written into the folder, to be looked at. The exit status is 0 if all holds, 1 if
+something doesn't, and 0 too if there is no Chromium, which it says.
 """
 
 import argparse

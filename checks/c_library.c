@@ -1,6 +1,6 @@
 /*
  * What checks/c_library.py runs over the C library: calls at the edges of what the header allows, calls whose memory is
- * refused, many threads at once, and books: at the edges, with memory refused, and one in each of many threads. It says what is wrong, and ends with status 1 where anything is.
+ * refused, many threads at once, and books: at the edges, with memory refused, and one in each of many threads. It says what is wrong, and ends with status 1 if anything is.
  *
  *     c_library edges|memory|threads|books APT STM JOURNAL
  *
@@ -13,7 +13,7 @@
 #include <stdlib.h>
 #include <string.h>
 
-enum { ROOM = 1 << 18, CALLS = 11, THREADS = 64, ROUNDS = 3 };
+enum { ROOM = 1 << 18, CALLS = 19, TRIALS = 16, THREADS = 64, ROUNDS = 3 };
 
 static int wrong = 0;
 
@@ -30,7 +30,7 @@ void *__real_malloc(size_t size);
 void *__real_realloc(void *block, size_t size);
 void __real_free(void *block);
 
-static _Thread_local long refused_at = 0; /* none where it is 0 */
+static _Thread_local long refused_at = 0; /* none if it is 0 */
 static _Thread_local long taken = 0;
 static _Thread_local long out = 0;
 
@@ -59,7 +59,7 @@ void __wrap_free(void *block) {
     __real_free(block);
 }
 
-/* ---- the calls, by number: six that are answered, one that is unlawful, and four that are refused ---- */
+/* ---- the calls, by number: those that are answered, and some that are unlawful or refused; from TRIALS on many runs ---- */
 
 struct bytes {
     const uint8_t *at;
@@ -97,6 +97,82 @@ static uint8_t *joined(const uint8_t *first, size_t first_length, const uint8_t 
     return both;
 }
 
+/* Three files of a call. */
+struct files {
+    uint8_t *at;
+    size_t length, lengths[3];
+};
+
+static struct files three(const uint8_t *first, size_t first_length, const uint8_t *second, size_t second_length,
+                          const uint8_t *third, size_t third_length) {
+    uint8_t *both = joined(first, first_length, second, second_length);
+    struct files files = { joined(both, first_length + second_length, third, third_length),
+                           first_length + second_length + third_length, { first_length, second_length, third_length } };
+    __real_free(both);
+    return files;
+}
+
+#define OWN_NUMBERS { BUCKFLEET_OWN, BUCKFLEET_OWN }
+
+static const buckfleet_numbers own_numbers = OWN_NUMBERS;
+static const buckfleet_pair own_pair = { OWN_NUMBERS, OWN_NUMBERS };
+static const buckfleet_run any_run = { OWN_NUMBERS, BUCKFLEET_ANY_RULE };
+static const buckfleet_run runs[2] = { { { 1, 200 }, BUCKFLEET_LINEAR }, { OWN_NUMBERS, BUCKFLEET_ROOT } };
+static const buckfleet_draws two_draws = { 7, 2 };
+static const buckfleet_drawn_run drawn_run = { { { 1, 200 }, BUCKFLEET_STEP }, { 7, 2 } };
+
+/* A journal that is checked by any rule, with no stem file. */
+static uint8_t tie(const uint8_t *first, size_t first_length, const uint8_t *second, size_t second_length, uint8_t *text,
+                   size_t room, size_t *length) {
+    struct files files = three(first, first_length, second, second_length, NULL, 0);
+    uint8_t status = buckfleet_check_with(files.at, files.length, files.lengths, 2, &any_run, text, room, length);
+    __real_free(files.at);
+    return status;
+}
+
+/* What a journal brings under its own instruction, and the journal beside itself. */
+static uint8_t worths(const uint8_t *first, size_t first_length, const uint8_t *second, size_t second_length, uint8_t *text,
+                      size_t room, size_t *length) {
+    struct files files = three(first, first_length, first, first_length, second, second_length);
+    uint8_t status = buckfleet_appraise(files.at, files.length, files.lengths, 3, &own_numbers, text, room, length);
+    __real_free(files.at);
+    return status;
+}
+
+static uint8_t beside(const uint8_t *first, size_t first_length, const uint8_t *second, size_t second_length, uint8_t *text,
+                      size_t room, size_t *length) {
+    struct files files = three(first, first_length, second, second_length, second, second_length);
+    uint8_t status = buckfleet_compare(files.at, files.length, files.lengths, 3, &own_pair, text, room, length);
+    __real_free(files.at);
+    return status;
+}
+
+/* What stems would come to, with no targets but the instruction's. */
+static uint8_t sweep(const uint8_t *first, size_t first_length, const uint8_t *second, size_t second_length, uint8_t *text,
+                     size_t room, size_t *length) {
+    struct files files = three(first, first_length, NULL, 0, second, second_length);
+    uint8_t status = buckfleet_sweep(files.at, files.length, files.lengths, 3, runs, 2, &two_draws, text, room, length);
+    __real_free(files.at);
+    return status;
+}
+
+static uint8_t wish(const uint8_t *first, size_t first_length, const uint8_t *second, size_t second_length, uint8_t *text,
+                    size_t room, size_t *length) {
+    struct files files = three(first, first_length, NULL, 0, second, second_length);
+    uint8_t status = buckfleet_wishes(files.at, files.length, files.lengths, 3, &drawn_run, text, room, length);
+    __real_free(files.at);
+    return status;
+}
+
+/* Prices, with the targets of the instruction as a file of targets. */
+static uint8_t tune(const uint8_t *first, size_t first_length, const uint8_t *second, size_t second_length, uint8_t *text,
+                    size_t room, size_t *length) {
+    struct files files = three(first, first_length, first, first_length, second, second_length);
+    uint8_t status = buckfleet_tune(files.at, files.length, files.lengths, 3, runs, text, room, length);
+    __real_free(files.at);
+    return status;
+}
+
 /* A harvester of its own cuts the stems: its journal, and the report behind it. */
 static uint8_t turns(const uint8_t *first, size_t first_length, const uint8_t *second, size_t second_length, uint8_t *text,
                      size_t room, size_t *length) {
@@ -126,9 +202,17 @@ static const struct {
     { "table of stems", table, &apt, &stm, BUCKFLEET_REFUSED },
     { "in turn", turns, &apt, &stm, BUCKFLEET_OK },
     { "in turn, swapped", turns, &stm, &apt, BUCKFLEET_REFUSED },
+    { "check with", tie, &apt, &journal, BUCKFLEET_OK },
+    { "check with a head", tie, &apt, &head, BUCKFLEET_UNLAWFUL },
+    { "appraise", worths, &apt, &journal, BUCKFLEET_OK },
+    { "appraise stems", worths, &apt, &stm, BUCKFLEET_REFUSED },
+    { "compare", beside, &apt, &journal, BUCKFLEET_OK },
+    { "sweep", sweep, &apt, &stm, BUCKFLEET_OK },
+    { "wishes", wish, &apt, &stm, BUCKFLEET_OK },
+    { "tune", tune, &apt, &stm, BUCKFLEET_OK },
 };
 
-/* The text of each call where memory is ample. */
+/* The text of each call if memory is ample. */
 static struct {
     uint8_t text[ROOM];
     size_t length;
@@ -238,6 +322,101 @@ static void in_turn(void) {
     __real_free(both);
 }
 
+/* What is misused in a call over several files, whose files may be asked of it as they are. */
+typedef uint8_t several_call(const struct files *, size_t count, uint8_t *text, size_t room, size_t *length);
+
+static buckfleet_run asked_run;
+static buckfleet_pair asked_pair;
+
+static uint8_t ask_worths(const struct files *files, size_t count, uint8_t *text, size_t room, size_t *length) {
+    return buckfleet_appraise(files->at, files->length, files->lengths, count, &asked_run.numbers, text, room, length);
+}
+
+static uint8_t ask_beside(const struct files *files, size_t count, uint8_t *text, size_t room, size_t *length) {
+    asked_pair.second = asked_run.numbers;
+    return buckfleet_compare(files->at, files->length, files->lengths, count, &asked_pair, text, room, length);
+}
+
+static uint8_t ask_sweep(const struct files *files, size_t count, uint8_t *text, size_t room, size_t *length) {
+    buckfleet_draws none = { 1, 0 };
+    buckfleet_run both[2] = { { OWN_NUMBERS, BUCKFLEET_STEADY }, asked_run };
+    return buckfleet_sweep(files->at, files->length, files->lengths, count, both, 2, &none, text, room, length);
+}
+
+static uint8_t ask_wishes(const struct files *files, size_t count, uint8_t *text, size_t room, size_t *length) {
+    buckfleet_drawn_run drawn = { asked_run, { 1, 0 } };
+    return buckfleet_wishes(files->at, files->length, files->lengths, count, &drawn, text, room, length);
+}
+
+static uint8_t ask_tune(const struct files *files, size_t count, uint8_t *text, size_t room, size_t *length) {
+    return buckfleet_tune(files->at, files->length, files->lengths, count, &asked_run, text, room, length);
+}
+
+/* Files that aren't what a call names, and numbers that it doesn't allow. */
+static void misused(several_call *ask_of, struct files files, const char *what) {
+    static uint8_t text[ROOM];
+    static const buckfleet_numbers outside[] = { { 0, 0 }, { 1001, 0 }, { 1, 1001 }, { BUCKFLEET_OWN - 1, 0 } };
+    struct files great = files, empty = { NULL, 0, { 0, 0, 0 } };
+    size_t n = 9, k;
+    buckfleet_run right_run = { { 1000, 1000 }, BUCKFLEET_STEADY };
+    asked_run = right_run;
+    asked_pair.first = own_numbers;
+    want(ask_of(&files, 3, text, ROOM, &n) != BUCKFLEET_MISUSED && n > 0, what);
+    memset(text, 0, ROOM);
+    want(ask_of(&empty, 0, NULL, 0, &n) == BUCKFLEET_MISUSED && n == 0, what);
+    want(ask_of(&files, 2, text, ROOM, &n) == BUCKFLEET_MISUSED && n == 0, what);
+    files.length++;
+    want(ask_of(&files, 3, text, ROOM, &n) == BUCKFLEET_MISUSED, what);
+    files.length--;
+    great.lengths[1] = SIZE_MAX;
+    want(ask_of(&great, 3, text, ROOM, &n) == BUCKFLEET_MISUSED, what);
+    for (k = 0; k < sizeof outside / sizeof *outside; k++) {
+        asked_run.numbers = outside[k];
+        want(ask_of(&files, 3, text, ROOM, &n) == BUCKFLEET_MISUSED && n == 0, what);
+    }
+    asked_run = right_run;
+    asked_run.rule = BUCKFLEET_ROOT + 1;
+    if (ask_of != ask_worths && ask_of != ask_beside)
+        want(ask_of(&files, 3, text, ROOM, &n) == BUCKFLEET_MISUSED && n == 0, what);
+    want(all_are(text, 0, 0, ROOM), "nothing is written where it is misused");
+}
+
+static void several(void) {
+    static const struct bytes none = { NULL, 0 };
+    static uint8_t text[ROOM];
+    size_t n = 0;
+    struct files of_stems = three(apt.at, apt.length, none.at, none.length, stm.at, stm.length);
+    struct files of_journals = three(apt.at, apt.length, journal.at, journal.length, journal.at, journal.length);
+    struct files of_contract = three(apt.at, apt.length, apt.at, apt.length, journal.at, journal.length);
+    misused(ask_worths, of_contract, "an appraisal");
+    misused(ask_beside, of_journals, "a comparison");
+    misused(ask_sweep, of_stems, "a sweep");
+    misused(ask_wishes, of_stems, "wishes");
+    misused(ask_tune, of_stems, "a tuning");
+    asked_run = any_run;
+    want(ask_sweep(&of_stems, 3, text, ROOM, &n) == BUCKFLEET_MISUSED, "a sweep by any rule");
+    of_stems.length -= stm.length;
+    want(ask_sweep(&of_stems, 2, text, ROOM, &n) == BUCKFLEET_MISUSED, "it is misused before it has no stem file");
+    want(ask_wishes(&of_stems, 2, text, ROOM, &n) == BUCKFLEET_MISUSED, "so are wishes");
+    asked_run = runs[0];
+    want(ask_sweep(&of_stems, 2, text, ROOM, &n) == BUCKFLEET_SEATS && memcmp(text, "seats\n", 6) == 0, "no stem file");
+    want(ask_tune(&of_stems, 2, text, ROOM, &n) == BUCKFLEET_SEATS, "nor for prices");
+    want(buckfleet_check_with(of_contract.at, apt.length, of_contract.lengths, 1, &any_run, text, ROOM, &n)
+             == BUCKFLEET_MISUSED, "no journal");
+    asked_run.numbers.period = 0;
+    want(buckfleet_check_with(of_contract.at, of_contract.length, of_contract.lengths, 3, &asked_run, text, ROOM, &n)
+             == BUCKFLEET_MISUSED && n == 0, "no such period");
+    asked_run = any_run;
+    asked_run.rule--;
+    want(buckfleet_check_with(of_contract.at, of_contract.length, of_contract.lengths, 3, &asked_run, text, ROOM, &n)
+             == BUCKFLEET_MISUSED && n == 0, "no such rule");
+    want(buckfleet_check_with(of_journals.at, of_journals.length, of_journals.lengths, 3, &any_run, text, ROOM, &n)
+             == BUCKFLEET_REFUSED && memcmp(text, "stm 2 fault ", 12) == 0, "a journal in the place of stems");
+    __real_free(of_stems.at);
+    __real_free(of_journals.at);
+    __real_free(of_contract.at);
+}
+
 static void edges(void) {
     uint8_t text[64];
     size_t n;
@@ -247,10 +426,13 @@ static void edges(void) {
     nothing(buckfleet_check, "check of nothing");
     nothing(buckfleet_report, "report of nothing");
     nothing(turns, "in turn of nothing");
+    nothing(tie, "check with nothing");
+    nothing(sweep, "sweep of nothing");
     for (k = 0; k < CALLS; k++)
         rooms(k);
     shown();
     in_turn();
+    several();
     want(memcmp(right[0].text, "STEM ", 5) == 0, "a bucking");
     want(memcmp(right[1].text, "LAWFUL ", 7) == 0, "a check");
     want(memcmp(right[2].text, "ENTRY 0 ", 8) == 0, "a report");
@@ -285,10 +467,10 @@ static long refusals_of(int k) {
     }
 }
 
-static void memory(void) {
+static void memory(int calls) {
     long all = 0;
     int k;
-    for (k = 0; k < CALLS; k++)
+    for (k = 0; k < calls; k++)
         all += refusals_of(k);
     want(all > 0, "memory is taken");
     printf("%ld takings of memory, each refused in turn\n", all);
@@ -713,7 +895,9 @@ int main(int count, char **words) {
     if (strcmp(words[1], "edges") == 0)
         edges();
     else if (strcmp(words[1], "memory") == 0)
-        memory();
+        memory(CALLS);
+    else if (strcmp(words[1], "single") == 0)
+        memory(TRIALS);
     else if (strcmp(words[1], "threads") == 0)
         threads();
     else if (strcmp(words[1], "books") == 0)

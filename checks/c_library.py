@@ -7,25 +7,28 @@ scripts/c_library proves and builds the library. Then
  - checks/c_library.c calls each function at the edges of what the header allows (null with no length, rooms of no length
    and one too small, files swapped), with each taking of memory refused in turn, and in 64 threads at once, over the
    files of examples/; once as it is, once with the compiler's own checks of addresses and of undefined behaviour, and
-   once under valgrind, where these are there (both of shorter files where memory is refused); and books in the same ways;
+   once under valgrind, if these are there; and books in the same ways. Memory is refused to all calls over short
+   files, and to the calls that make no trial over the other files too;
  - the examples in C and in Python cut a pine, and check and report a morning's journal: they print what the program
-   prints, where it is built (`rt run -- --help` in crates/buckfleet), and the stored texts where these are there;
- - a journal's page and its tables are those of the program, where it is built; and the journal and the report of a
+   prints, if it is built (`rt run -- --help` in crates/buckfleet), and the stored texts if these are there;
+ - a journal's page and its tables are those of the program, if it is built; and the journal and the report of a
    morning's three files in turn, by each rule;
  - a morning's first stem file is cut stem by stem into a book, in C and in Python, by each rule: they print what a fleet
    of one harvester prints, with the same journal, which the program finds lawful and by the rule;
-  - a stem is looked at first, in C: it is cut as its preview showed, and two own cuttings are priced;
-  - the shared library shows the calls of the header alone, and its name has their version; names that aren't UTF-8 go
-    through;
-  - checks/package.py holds: the Python package's own tests, its installation, and two programs of examples/python; so
-    does checks/books.py, where the program is built;
+ - a stem is looked at first, in C: it is cut as its preview showed, and two own cuttings are priced;
+ - a journal is held against stem files and a rule, journals are appraised and compared, and harvests are swept, wished
+   and tuned, in C and in Python: the text and the status are the program's;
+ - the shared library shows the calls of the header alone, and its name has their version; names that aren't UTF-8 go
+   through;
+ - checks/package.py holds: the Python package's own tests, its installation, and two programs of examples/python; so
+   do checks/books.py and checks/several.py, if the program is built;
  - each worked case of crates/run_cases that an instruction file and a stem file or a journal make up is asked of the
    library too, by Python;
- - where a folder of more cases is named, each case of its own folder there, whose file `args` has the words of the
-   program, with its files there or in `files`, is asked of both the program and the library, where the library has such a
+ - if a folder of more cases is named, each case of its own folder there, whose file `args` has the words of the
+   program, with its files there or in `files`, is asked of both the program and the library, if the library has such a
    call; of a fleet, both are asked for the same harvesters in turn.
 
-The last line is 'N passed, M failed', and the status is 0 where none failed. Where there is no C compiler it says so, and
+The last line is 'N passed, M failed', and the status is 0 if none failed. If there is no C compiler it says so, and
 ends with status 2.
 """
 import argparse
@@ -65,7 +68,7 @@ def read(*words):
 
 
 def compiled(compiler, scratch, name, source, *flags):
-    """A program over the static library, or None where the compiler doesn't know the flags."""
+    """A program over the static library, or None if the compiler doesn't know the flags."""
     program = os.path.join(scratch, name)
     words = [compiler, *flags, "-I", FOLDER, os.path.join(TOP, source), os.path.join(FOLDER, "libbuckfleet.a")]
     done = run([*words, "-lpthread", "-o", program])
@@ -87,14 +90,14 @@ def at_the_edges(compiler, scratch):
         print("the compiler has no checks of addresses: left out")
     files = [example(name) for name in ("morning.apt", "morning_1.stm", "morning.jrn")]
     few = [example(name) for name in ("two_stems.apt", "pine.stm", "two_stems.jrn")]
-    for what in ("edges", "memory", "threads", "books"):
+    for what in ("edges", "memory", "single", "threads", "books"):
         for name, program in (("plain", plain), ("checked", checked)):
-            if program:
-                done = run([program, what, *(few if what == "memory" and name == "checked" else files)])
+            if program and (what, name) != ("single", "checked"):
+                done = run([program, what, *(few if what == "memory" else files)])
                 tell(f"{what}, {name}", done.returncode == 0, (done.stdout + done.stderr).decode(errors="replace"))
-                if what in ("memory", "books") and name == "plain":
+                if what in ("memory", "single", "books") and name == "plain":
                     sys.stdout.write(done.stdout.decode())
-        if plain and shutil.which("valgrind") and what not in ("threads", "books"):
+        if plain and shutil.which("valgrind") and what in ("edges", "memory"):
             words = ["valgrind", "-q", "--error-exitcode=9", "--leak-check=full", plain, what, *(few if what == "memory" else files)]
             done = run(words)
             tell(f"{what}, valgrind", done.returncode == 0, done.stderr.decode(errors="replace")[:500])
@@ -133,6 +136,7 @@ def examples(compiler, scratch, program):
         for rule in ("steady", "linear", "step", "root"):
             files = [example(name) for name in ("morning.apt", "morning_1.stm", "morning_2.stm", "morning_3.stm")]
             same_turns(f"in turn by {rule}", program, rule, files)
+        several(compiler, scratch, program)
     book_examples(compiler, scratch, program)
     looks(compiler, scratch)
     header = run([compiler, "-x", "c++", "-fsyntax-only", "-Wall", "-Wextra", "-Werror", os.path.join(FOLDER, "buckfleet.h")])
@@ -150,7 +154,8 @@ def library():
 def answer(call, *given):
     """What a call of the module answers: what it prints, what it says, and its status."""
     try:
-        return call(*given), "", 0
+        found = call(*given)
+        return getattr(found, "text", found), "", 0
     except library().Refused as refused:
         return b"", refused.line, refused.status
 
@@ -184,6 +189,50 @@ def shown(program):
         for what in buckfleet.TABLES:
             done = run([program, "table", apt, journal, what], cwd=os.path.join(TOP, "examples"))
             same_as(f"table {apt} {journal} {what}", done, answer(buckfleet.table_text, *files, what), False)
+
+
+def several(compiler, scratch, program):
+    """Calls over several files, by the program, by the library in Python, and, with a rule alone, in C."""
+    buckfleet = library()
+    in_c = compiled(compiler, scratch, "several_files", "examples/c/several_files.c", *STRICT)
+    tell("examples/c/several_files.c is compiled", in_c is not None)
+    apt, journal, mill, bank = map(example, ("morning.apt", "morning.jrn", "mill.apt", "bank.stm"))
+    stms = [example(f"morning_{number}.stm") for number in (1, 2, 3)]
+    turn = os.path.join(scratch, "turn.jrn")
+    run([program, "fleet", "--quiet", "--in-turn", "--rule", "linear", "--journal", turn, apt, *stms])
+
+    def same(words, call, *given, c=None):
+        done = run([program, *words])
+        name = f"{words[0]} {' '.join(map(os.path.basename, words[1:]))}"
+        same_as(name, done, answer(call, *given), False)
+        if c and in_c:
+            found = run([in_c, *c])
+            tell(f"{name}, in C", (found.returncode, found.stdout, found.stderr) == (done.returncode, done.stdout, done.stderr),
+                 str(found)[:2000])
+
+    for rule in buckfleet.RULES:
+        named = ["--rule", rule]
+        for kept in (turn, journal):
+            files = [apt, kept, *stms]
+            same(["check", *named, *files], buckfleet.check_with, apt, kept, stms, rule, c=["check", rule, *files])
+            same(["check", *named, apt, kept], buckfleet.check_with, apt, kept, [], rule, c=["check", rule, apt, kept])
+        for word, call in (("sweep", buckfleet.sweep), ("wishes", buckfleet.wishes), ("tune", buckfleet.tune)):
+            given = [rule] if word == "sweep" else rule
+            same([word, *named, apt, *stms], call, apt, stms, given, c=[word, rule, apt, *stms])
+            same([word, *named, apt, journal], call, apt, [journal], given, c=[word, rule, apt, journal])
+        same(["tune", *named, "--period", "1", "--limit", "80", mill, bank], buckfleet.tune, mill, [bank], rule, 1, 80)
+        same(["wishes", *named, "--draws", "3", "--seed", "9", "--period", "5", "--targets", apt, apt, *stms],
+             buckfleet.wishes, apt, stms, rule, 5, None, apt, 3, 9)
+    same(["sweep", "--rule", "step", "--rule", "root", "--period", "1,5", "--limit", "0,300", "--draws", "4", apt, *stms],
+         buckfleet.sweep, apt, stms, ["step", "root"], [1, 5], [0, 300], None, 4)
+    same(["sweep", "--targets", journal, apt, *stms], buckfleet.sweep, apt, stms, ["steady"], [None], [None], journal)
+    same(["check", "--period", "7", apt, turn, *reversed(stms)], buckfleet.check_with, apt, turn, stms[::-1], None, 7)
+    for own in (apt, mill, journal):
+        same(["appraise", apt, journal, own], buckfleet.appraise, apt, [journal], own, c=["appraise", apt, own, journal])
+    same(["appraise", "--limit", "10", apt, journal, turn, apt], buckfleet.appraise, apt, [journal, turn], apt, None, 10)
+    for first, second in ((journal, turn), (turn, apt), (journal, os.path.join(TOP, "examples", "two_stems.jrn"))):
+        same(["compare", apt, first, second], buckfleet.compare, apt, first, second, c=["compare", apt, first, second])
+    same(["compare", "--period", "1,7", apt, journal, turn], buckfleet.compare, apt, journal, turn, (1, 7))
 
 
 def book_examples(compiler, scratch, program):
@@ -246,7 +295,8 @@ def shared_names():
 
 def package(program):
     """The tests of the Python package hold."""
-    for name, words in (("package.py", []), *([("books.py", ["--bin", program])] if program else [])):
+    over = ("books.py", "several.py") if program else ()
+    for name, words in (("package.py", []), *((name, ["--bin", program]) for name in over)):
         done = run([*python("checks", name), *words])
         tell(f"checks/{name}", done.returncode == 0, (done.stdout + done.stderr).decode(errors="replace"))
 
@@ -321,7 +371,7 @@ def cases_of(name):
 
 
 def asked(buckfleet, words, files):
-    """What the library answers to a case: what it prints, what it says, and its status; None where it isn't asked."""
+    """What the library answers to a case: what it prints, what it says, and its status; None if it isn't asked."""
     other = {"buck": "stm", "check": "jrn", "report": "jrn"}.get(words)
     if other is None:
         return None

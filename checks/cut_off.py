@@ -6,7 +6,7 @@
 A run of one harvester always writes the same journal. It is run to its end once, and then again and again over an old
 OUT, ended by SIGKILL at moments spread over the time that it takes, closer towards the end, where it writes. Each time
 OUT must be the old file or the new journal, whole. The last line is 'N moments: A old, B new, M neither', and the
-status is 0 where none is neither. What an ended run left beside OUT must have a name that says what it is, and be a first
+status is 0 if none is neither. What an ended run left beside OUT must have a name that says what it is, and be a first
 part of the new journal; the next run leaves it alone, which is looked at too.
 """
 import argparse
@@ -31,7 +31,7 @@ def stem_file(stems):
 
 
 def run(words, folder, seconds=None):
-    """Runs the words; ends them after so many seconds, where they are given."""
+    """Runs the words; ends them after so many seconds, if they are given."""
     with subprocess.Popen(words, cwd=folder, stdout=subprocess.DEVNULL, stderr=subprocess.DEVNULL) as process:
         try:
             return process.wait(seconds)

@@ -3,10 +3,9 @@
 
     checks/edges.py PROGRAM [--row WORD]
 
-Each row is a run in a folder of its own: where OUT stands behind a standard stream, has an owner, a mode and other names,
-is a FIFO, or is written by several runs at once; where standard streams are closed or full; and words that are refused.
-Those of an owner want the rights of root, and are left out else. The last line is 'N rows, M differ', and the status is
-0 where none does.
+Each row is a run in a folder of its own. OUT is the file of a standard stream, has an owner, a mode and other names, is a
+FIFO, or is written by several runs at once; standard streams are closed or full; arguments are refused. Rows on owners
+need the rights of root, and are left out otherwise. The last line is 'N rows, M differ', and the status is 0 if none does.
 """
 import argparse
 import os
@@ -123,7 +122,7 @@ def out_behind_the_input():
 @row
 def out_behind_the_output_in_words():
     status, _, errors = run(f"fleet --explain --in-turn --journal x {FILES} > x")
-    expect((status, errors) == (5, b"x: is the file behind standard input, output or error\nwrite fault\n"), errors)
+    expect((status, errors) == (5, b"x: is the file of standard input, output or error\nwrite fault\n"), errors)
 
 
 @row
@@ -137,12 +136,12 @@ def out_that_is_a_pipe_or_nothing():
 @row
 def input_that_is_a_pipe_in_words():
     _, _, errors = run("buck --explain - /dev/fd/3", "3< morning.apt < morning.apt")
-    expect(errors == b'/dev/fd/3, line 1: kind of file (1 2): "APT", STM wanted\nstm 1 fault 2\n', errors)
+    expect(errors == b'/dev/fd/3, line 1: kind of file (1 2): "APT", expected STM\nstm 1 fault 2\n', errors)
     os.mkfifo("pipe")
     with subprocess.Popen(["cp", "morning.apt", "pipe"]):
         _, _, errors = run("buck --explain morning.apt pipe")
     os.remove("pipe")
-    expect(errors == b'pipe, line 1: kind of file (1 2): "APT", STM wanted\nstm 1 fault 2\n', errors)
+    expect(errors == b'pipe, line 1: kind of file (1 2): "APT", expected STM\nstm 1 fault 2\n', errors)
 
 
 @row
@@ -212,7 +211,7 @@ def folder_that_takes_no_file():
     status, _, errors = run(f"{WORDS} o.jrn {FILES}", user=65534, group=65534)
     expect(status == 0 and held("o.jrn") == journal and left() == ["o.jrn"], errors)
     status, _, errors = run(f"fleet --explain --in-turn --journal new.jrn {FILES}", user=65534, group=65534)
-    expect((status, errors) == (5, b"new.jrn: not allowed\nwrite fault\n"), errors)
+    expect((status, errors) == (5, b"new.jrn: permission denied\nwrite fault\n"), errors)
     status, _, errors = run(f"fleet --explain --in-turn --journal . {FILES}")
     expect((status, errors) == (5, b".: is a folder\nwrite fault\n"), errors)
 
@@ -274,7 +273,7 @@ def fifo_whose_reader_is_gone_at_a_terminal():
 
 @row
 def out_that_is_told_of_is_not_made():
-    """Of a full output it is told in words while OUT is gone again."""
+    """A full output is explained in words although OUT is gone again."""
     status, _, errors = run(f"fleet --explain --in-turn --journal gone/o.jrn {FILES}")
     expect((status, errors) == (5, b"gone/o.jrn: no such file\nwrite fault\n"), errors)
     for words in ("--explain", ""):
@@ -423,11 +422,11 @@ def postings_of_two_journals():
 
 @row
 def journal_that_is_named_twice():
-    note = b"note: morning.jrn: a journal that is named twice counts twice\r\n"
+    note = b"note: morning.jrn: named twice, so it counts twice\r\n"
     for words in ("view morning.apt morning.jrn morning.jrn", "table morning.apt morning.jrn morning.jrn classes"):
         expect(run(words, terminal=True)[::2] == (0, note), words)
         expect(run(words.replace(" ", " --quiet ", 1), terminal=True)[::2] == (0, b""), f"{words}, quietly")
-        expect(run(words)[::2] == (0, b""), f"{words}, where nobody looks on")
+        expect(run(words)[::2] == (0, b""), f"{words}, without a terminal")
     expect(run("view morning.apt morning.jrn", terminal=True)[::2] == (0, b""), "one journal")
 
 

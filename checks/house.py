@@ -10,20 +10,20 @@
 - The code map of docs/ARCHITECTURE.md has each crate of the product with the first sentence of its page and the crates
   that it is built on (--write writes it).
 - The files of crates/*/data that stand in examples/ too are equal to these: those of the same name, those of COPIES.
-- Links in documents lead to a file, and to a heading where they name one; a file of a crate that stands in backticks is
+- Links in documents lead to a file, and to a heading if they name one; a file of a crate that stands in backticks is
   there: `src/..`, `specs/..` and `proofs/..` behind the crate's name, or on its own page.
 - A name that stands in backticks is one of some source, as `settle_run`; with its module, type or crate, as
   `pricing::put_list`, one of a file that has these too. A path, as `file/plain`, is the end of one that is there.
 - No source names a page in specs/inner/ of another crate.
 - Each caller and each edit says what its wrong body does; docs/WRONG_BODIES.md is as checks/wrong_bodies.py writes it.
 - Documents have each habit of HABITS no more often than stands there, and *what* at most MOST_WHAT times in 1,000 words;
-  texts of the program, as the sentences in docs/FAULTS.md, don't count.
+  texts of the program, as the sentences in docs/FAULTS.md, don't count. Comments of crates have none of those at 0.
 - Each public item of a product crate has a doc comment. That of each public number, a constant, a field or one in a
   variant, says its unit, its range, from where it counts, or what it counts, in one of the words of UNITS.
 - No line of src/ and specs/ of a product crate is wider than 120 columns, imports aside, but for as many as WIDE allows
   each crate.
 
-The last line is 'N wrong', and the status is 0 where nothing is.
+The last line is 'N wrong', and the status is 0 if nothing is.
 """
 import os
 import re
@@ -78,10 +78,10 @@ HABITS = {
     r"anew": 0,
     r"by turns": 0,
     r"h(angs?|ung) on": 0,
-    r"(is|are|was|were|be|been) told": 0,
+    r"(is|are|was|were|be|been|being)(n't)? told": 0,
     r"look(s|ed|ing)? whether": 0,
     r"since": 3,
-    r"where": 5,
+    r"where": 4,
 }
 MOST_WHAT = 5
 
@@ -326,8 +326,19 @@ def said():
     return found
 
 
+def comments():
+    """The comments of each source and each edit of a crate, by its path."""
+    for path in files():
+        if re.fullmatch(r"crates/.*\.(rt|antt|edit)", path):
+            yield path, " ".join(" ".join(re.findall(r"(?m)^\s*(?://[/!]?|--|# )(.*)$", read(path))).split())
+
+
 def wrong_habits():
-    """Habits that documents have too often."""
+    """Habits that documents, or comments, have too often."""
+    dropped = "|".join(habit for habit, most in HABITS.items() if not most)
+    for path, text in comments():
+        for found in re.finditer(rf"(?i)\b({dropped})\b", text):
+            yield f"{path} has '{found[0]}' in a comment"
     pages = said()
     for habit, most in HABITS.items():
         found = {page: len(re.findall(rf"(?i)\b{habit}\b", pages[page])) for page in sorted(pages)}

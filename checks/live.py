@@ -5,7 +5,7 @@
 
 Each answer must come before the next request is written; what was cut must be what a journal of it says; a request that
 is refused must change nothing; a last line that is cut off must not be cut. examples/live_loop.py must say the same of
-the program as of checks/live_mock.py, and that each stem was cut as it was shown. The exit status is 0 where all holds.
+the program as of checks/live_mock.py, and that each stem was cut as it was shown. The exit status is 0 if all holds.
 """
 
 import argparse
@@ -29,7 +29,7 @@ class Asked:
         self.rest = b""
 
     def line(self):
-        """The next line of the output, or what there is of it where none comes."""
+        """The next line of the output, or what there is of it if none comes."""
         while b"\n" not in self.rest:
             ready, _, _ = select.select([self.ran.stdout], [], [], SECONDS)
             more = os.read(self.ran.stdout.fileno(), 65536) if ready else b""
@@ -98,7 +98,7 @@ def main():
         asked = Asked(program, folder, "--explain", "pine.apt", stderr=subprocess.STDOUT)
         asked.ask(stems[0])
         told = [asked.ask(b"951 1 7")[0], asked.line()]
-        words = b"standard input, line 2: species (952 1) of stem 7: not there, one wanted"
+        words = b"standard input, line 2: species (952 1) of stem 7: missing, expected one"
         expect(told == [words, b"stm 1 fault 3 952 1"], f"a refused request was told as {told}")
         expect(asked.end() == (b"", 0), "something is said after the last request")
         # A reader that goes away: nothing is said of it, and what was cut stands in the journal.

@@ -72,48 +72,54 @@ HEADLINE_PAGE = """# The headline, whole
 
 `python3 checks/pages.py --write` writes this page. Don't edit it.
 
-For a sceptic: all that must be believed of this repository for [the headline](PROOFS.md#the-headline). First come the clauses of the calls that it is about, then every definition that they lead to, with its file, its lines, and links to the definitions that it names. Nothing here is a body or a proof.
+For a sceptic: all that must be believed of this repository for [the headline](PROOFS.md#the-headline):
 
-The page shows {lines} lines of the sources, from {files} files: {clauses} of the heads and clauses of {calls} calls, and {definitions} of definitions. {types} of these are types of the code; if a contract sees a type by a view, the page shows the view without its invariant.
+{claim}
 
-A comment that calls a type valid or lawful describes its invariant, which the checker keeps: of `Instruction`, `Assortment`, `Stem`, `Sheet` and `Plan` it is `IsInstruction`, `IsAssortment`, `IsStem`, `IsSheet` and `IsPlan`; that of `Parts`, and so of `Closed`, contains `IsLawful`. So a history that `close` refuses is lawful too.
+First come the clauses of the calls that it is about, then every definition that they lead to, with its file, its lines, and links to the definitions that it names. Nothing here is a body or a proof.
 
-The standard library, `atomic_table` and `boxcar` are not repeated; [PROOFS](PROOFS.md#what-is-assumed) has what else is assumed, and what is not proved. Of a `CutFault`, a `RetargetFault` and a caller's `Gate`, which hears each plan, no clause here says anything, so they are not shown.
+The page shows {lines} lines of the sources, from {files} files: {clauses} of the heads and clauses of {calls} calls, and {definitions} of definitions. {types} of these are types of the code; where contracts see a type through a view, the page shows the view but not the type's invariant.
+
+If a comment calls a value valid or lawful, it means the invariant of its type, which the checker enforces: for `Instruction`, `Assortment`, `Stem`, `Sheet` and `Plan` it is `IsInstruction`, `IsAssortment`, `IsStem`, `IsSheet` and `IsPlan`; that of `Parts`, and so of `Closed`, contains `IsLawful`. So a history that `close` refuses is lawful too.
+
+The standard library, `atomic_table` and `boxcar` are not repeated; [PROOFS](PROOFS.md#what-is-assumed) lists what else is assumed, and what is not proved. No clause here constrains a `CutFault`, a `RetargetFault` or a caller's `Gate`, which hears each plan, so they are not shown.
 
 ## Seats of another fleet
 
-`close` doesn't ask that each seat is one of its fleet (`IsSeatIn`), and need not: its condition `parts` excludes all others.
+`close` doesn't ask that each seat is one of its fleet (`IsSeatIn`), and need not: its condition `parts` rules out every other seat.
 
-A *ledger* (`std::sync::ledger`) is a number of parts that exists in proofs alone; `L` names one, and `L.parts` is its number. A `Blank` is a ledger that is in use nowhere: it has a name of its own, can't be copied, and `open` uses it up. Because `open` requires that this name is `L`'s (`blank`), at most one fleet is ever opened with `L`, and `L.parts` is 64.
+A *ledger* (`std::sync::ledger`) is a fixed number of parts that exist only in proofs; `L` names one, and `L.parts` is its number. A `Blank` is a ledger that isn't in use yet: it has a name of its own, can't be copied, and `open` uses it up. Because `open` requires that this name is `L`'s (`blank`), at most one fleet is ever opened with `L`, and `L.parts` is 64.
 
-`open` hands out seats that have all 64 parts together (`AreOpened`). All holders of parts of one ledger have `L.parts` together (the library keeps it so), and every seat has at least one (an invariant of `Seat`). `close` requires that its seats have `L.parts` parts together, so they are all the seats that the fleet has. A seat of another fleet has parts of another ledger, and so another type. A seat that is dropped takes its parts with it; its fleet can't be closed.
+`open` hands out seats that together hold all 64 parts (`AreOpened`). All holders of parts of one ledger hold `L.parts` together (the library guarantees this), and every seat has at least one (an invariant of `Seat`). `close` requires that its seats together hold `L.parts` parts, so they are all the seats that the fleet has. A seat of another fleet has parts of another ledger, and so another type. A seat that is dropped takes its parts with it; its fleet can't be closed.
 
-Of the public calls of `buck_fleet`, only those on this page and `run_fleet` can change a seat: nothing else changes a kept list.
+Of the public calls of `buck_fleet`, only those on this page and `run_fleet` can change a seat. `run_fleet` makes these calls for each seat, in a thread of its own; its clauses (`HaveRun`) aren't on this page.
 
 ## How to read it
 
 | Form | Meaning |
 |---|---|
 | `≡`, `≢`, `ℕ` | is equal to, is not equal to, a natural number |
-| `a - b`, `a / b`, `a % b` | 0 if b is greater; rounded down; the remainder |
+| `a - b`, `a / b`, `a % b` | 0 if b is greater; rounded down; the remainder, and a if b is 0 |
 | `A × B`, `A ⊎ B`, `A → B` | A and B (or a pair, with parts `.0` and `.1`); A or B; if A, then B |
 | `(x : A) → B`, `(x : A) × B` | for every x of type A, B; for some x of type A, B |
 | `Unit {{0}}`, `⊥`, `tt` | what always holds; what never holds; the one value of the first |
 | `λ x. e` | the function that gives e for x |
 | `[]`, `x ∷ xs`, `xs ++ ys` | the empty list; x before the list xs; one list after the other |
 | `==`, `&&`, `\\|\\|`, `nat_eq`, `nat_le` | tests, which give `true` or `false` |
-| `{{F : Type 0}}` | an argument that isn't written where it is clear |
-| `abbrev`, `unfoldable` | begin a definition; they say when the checker puts in its meaning, not what it means |
+| `Type 0`, `{{F : Type 0}}` | the type of statements; an argument that is left out when it is clear |
+| `u8` to `u64`, `usize` | numbers of so many bits; natural numbers in definitions |
+| `abbrev`, `unfoldable` | begin a definition; they say when the checker unfolds it, which doesn't affect its meaning |
 | `record` | a tuple with named fields; one that states something holds if all its fields do |
 | `«module»` | the name `module`, which is a word of the language |
 | `requires`, `ensures` | a condition on the caller; a clause that holds after the call |
 | `ghost` | of proofs alone, with no effect when the program runs; in a struct also a fact that holds of its values |
-| `Value`, `view` | as what contracts see a type, and the function from its fields to that |
-| `x.now`, `x.old`, `x.new` | the value at the end of a call; of a `&mut` that at its beginning and at its end |
+| `Value`, `view` | the type that contracts see in the place of a type, and the function from its fields to that |
+| `x.now`, `x.old`, `x.new` | the value where a clause or an invariant stands; the value of a `&mut` at the beginning of the call, and at its end |
 | `v.items`, `a.value` | the list in a `Vec`; what an `Arc` holds |
 | `opening.Seats`, `posting.Cut` | variants of `OpenFault` and of `Posting` |
 | `slot!(918, 1, 0..=1_000_000)` | an item of a file by number and kind, with its range, whose end is `.high` |
-| `take n xs`, `drop n xs`, `length`, `map`, `sum`, `flat_map`, `min`, `position` | as in Rust |
+| `take n xs`, `drop n xs` | the first n elements; all but these |
+| `length`, `map`, `sum`, `flat_map`, `min`, `position` | as `len` and the others of Rust |
 | `slice_get xs i` | element i, from 0, if there is one |
 | `slice_index xs i`, `slice_index_or xs i d` | element i, else 0; element i, else d |
 | `All P xs`, `EachIndex xs P` | P of each element; P of each index |
@@ -391,20 +397,21 @@ class Reading:
             last += 1
         return first, last
 
+    def of_signature(self, name):
+        """The types of the product that the signature of a call names, and the type that it is a method of."""
+        crate, _, lines, at = self.calls[name]
+        rust = {}
+        for use in re.findall(r"(?m)^use ((?:crate|buck_\w+)[^;]*);", "\n".join(lines)):
+            rust.update({name: use.split("::")[0] for name in re.findall(r"\b[A-Z]\w*\b(?!::)", use)})
+        signature = "\n".join(lines[at : self.head(name)[1] + 1]).split("requires")[0]
+        yield from self.of_types(f"{name.split('::')[-2]} {signature}", crate, rust)
+
     def leads_to(self, node):
         """What a call, a type or a definition leads to, in the order in which it is named."""
         if node[0] == "call":
-            crate, _, lines, at = self.calls[node[1]]
-            first, last = self.head(node[1])
-            text = clauses(lines, at)
-            yield from self.of_names(text, None, taken_by(lines, "ghost "))
-            names = "\n".join(lines)
-            rust = {}
-            for use in re.findall(r"(?m)^use ((?:crate|buck_\w+)[^;]*);", names):
-                rust.update({name: use.split("::")[0] for name in re.findall(r"\b[A-Z]\w*\b(?!::)", use)})
-            signature = "\n".join(lines[at : last + 1]).split("requires")[0]
-            holder = node[1].split("::")[-2]
-            for it in self.of_types(f"{holder} {signature}", crate, rust):
+            _, _, lines, at = self.calls[node[1]]
+            yield from self.of_names(clauses(lines, at), None, taken_by(lines, "ghost "))
+            for it in self.of_signature(node[1]):
                 if self.types[it[1:]][3] != (0, -1):
                     yield it
         elif node[0] == "type":
@@ -486,11 +493,17 @@ def headline(found):
 
     numbers = {"lines": size(order), "clauses": size(calls), "calls": len(calls), "definitions": size(others)}
     numbers |= {"files": len({it[1] for _, it in order}), "types": sum(node[0] == "type" for node, _ in order)}
-    text = HEADLINE_PAGE.format(**numbers)
+    there = {node for node, _ in order}
+    with open(os.path.join(TOP, "docs", "PROOFS.md")) as page_of_claim:
+        claim = re.search(r"(?m)^## The headline\n\n(.*)$", page_of_claim.read())[1]
+    text = HEADLINE_PAGE.format(claim=claim, **numbers)
     for title, parts in (("The clauses", calls), ("The definitions", others)):
         text += f"\n## {title}\n"
         for node, shown in parts:
-            named = [reading.shown(it)[0] for it in reading.leads_to(node) if it != node and reading.shown(it)]
+            leads = list(reading.leads_to(node))
+            if node[0] == "call":
+                leads += [it for it in reading.of_signature(node[1]) if it not in leads and it in there]
+            named = [reading.shown(it)[0] for it in leads if it != node and reading.shown(it)]
             text += part_of_page(shown, linked(named))
     return text, numbers["lines"], numbers["files"]
 

@@ -6,7 +6,7 @@
 They run under the checking interpreter, which stops at an index out of bounds, an overflow, a failed assertion. It proves
 nothing: `rt ci` is the gate, and `rt verdict` and `rt must-fail NAME` are the gate for one crate. Without names it takes
 every crate of crates.txt that has a #[test], and run_cases. The last line is 'N passed, M failed', where a file of cases
-counts as one, and the status is 0 where none failed.
+counts as one, and the status is 0 if none failed.
 """
 import argparse
 import concurrent.futures
@@ -36,13 +36,13 @@ def has_tests(crate):
 
 
 def counted_cases(text):
-    """How many files of cases have no difference, and how many have one; none where no file was run."""
+    """How many files of cases have no difference, and how many have one; none if no file was run."""
     found = [int(it) for it in re.findall(r"^\w+: \d+ cases, (\d+) differ$", text, re.M)]
     return (found.count(0), len(found) - found.count(0)) if found else None
 
 
 def counted(text):
-    """How many tests passed and failed, by the line that ends them; none where there is no such line."""
+    """How many tests passed and failed, by the line that ends them; none if there is no such line."""
     found = re.search(r"^test result: \w+\. (\d+) passed; (\d+) failed", text, re.M)
     return (int(found[1]), int(found[2])) if found else None
 

@@ -297,8 +297,8 @@ def worth_of(instruction: Instruction, sheet: list[int], log: Log, its_class: Cl
 def best(instruction: Instruction, sheet: list[int], stem: Stem) -> tuple[list[Log], int]:
     """RULES, Cuttings, and the best one: the first of the best, and its worth.
 
-    From each place on, upwards from the last one, it is the way of the greatest worth. The ways stand in the order in
-    which equals are told apart: a log that starts here comes before any that starts later, and before none; of two that
+    From each place on, upwards from the last one, it is the way of the greatest worth. The ways stand in the order
+    that settles ties: a log that starts here comes before any that starts later, and before none; of two that
     start here the shorter, and of two as long the lower assortment. `max` takes the first of equals.
     """
     module = instruction.module

@@ -5,20 +5,20 @@
 
 It looks at the tests whose names begin with refused_memory: each makes few allocations. For N = 1, 2, .. the Nth
 allocation of each is refused (`rt try --test --fail-alloc N`, compiled with checks and with no proofs). The rule: a test
-in which a growth was refused looks at what stood before, goes on with ample memory, and then ends with an error that
+in which an allocation failed looks at what stood before, goes on with ample memory, and then ends with an error that
 says that memory ran out. So a test that passes made fewer than N allocations, or was
 refused room that a list asks for ahead and does without; an answer that changes, a failed assertion, a fault or a run
 with no answer breaks the rule. A crate is done when all its tests passed at three places
 tried in a row, or at --most, which is then said. With --every S only N = 1, 1 + S, 1 + 2 S, .. are tried. Without names
 it takes every crate of crates.txt that has such a test. It says for each test at how many places an allocation was
-refused; the last line is 'N passed, M failed', counted by these places, and the status is 0 where none failed.
+refused; the last line is 'N passed, M failed', counted by these places, and the status is 0 if none failed.
 
-A run takes 10 to 80 seconds on one core, nearly all of it to build the crate anew. With --built the tests that `rt test`
+A run takes 10 to 80 seconds on one core, nearly all of it to build the crate. With --built the tests that `rt test`
 left in out/ are run instead, each in a process of its own whose Nth call of `malloc` or `realloc` a small library refuses;
 it is compiled from the lines below, by `cc`. That takes seconds in all, and names the crates that aren't built.
 
-No contract can say that a call answers otherwise than `Memory` where there is memory, and that `Memory` comes only
-where a growth was refused: this is where that is shown. The tests read and write through readers and writers of their
+No contract can say that a call answers otherwise than `Memory` if there is memory, and that `Memory` comes only
+if an allocation failed: this check shows it. The tests read and write through readers and writers of their
 own that fail at the kth call, so these need no command.
 """
 import argparse
@@ -86,7 +86,7 @@ def outcome(result, text):
 
 
 def tried(crate, number):
-    """What became of each test of refused memory where this allocation is refused, and the text of the run."""
+    """What became of each test of refused memory if this allocation is refused, and the text of the run."""
     run = subprocess.run(
         ["rt", "try", "--test", "--fail-alloc", str(number)],
         cwd=os.path.join(TOP, "crates", crate),
@@ -119,7 +119,7 @@ def swept(crate, places, pool):
 
 
 def tried_built(program, refuser, name, number):
-    """What became of a built test where this allocation is refused, and the text of the run."""
+    """What became of a built test if this allocation is refused, and the text of the run."""
     run = subprocess.run(
         [program, name],
         env={"LD_PRELOAD": refuser, "REFUSED": str(number)},

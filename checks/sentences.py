@@ -6,7 +6,7 @@
 Each row of the table of sentences has a case for each of its lines, with numbers of its own, and a row that speaks of an
 item one for each item; a line of a journal has another with the journal's number, and one of an instruction another of an
 owner's instruction. A line with a field too few, too many or that is no number is a mistake in the words. The last line
-is 'N cases, M differ', and the status is 0 where none does; with --write the cases are written as they should be.
+is 'N cases, M differ', and the status is 0 if none does; with --write the cases are written as they should be.
 """
 import pathlib
 import re
@@ -33,7 +33,7 @@ def tables():
 
 
 def lines_of(row, items):
-    """Each line that a row tells of, and its sentence, or none where there is no such line."""
+    """Each line that a row tells of, and its sentence, or none if there is no such line."""
     for line in re.findall(r"`([^`]*)`", row[0]):
         file = line.split()[0]
         found = []
@@ -48,11 +48,11 @@ def lines_of(row, items):
             text = re.sub(r"\*([abcd])\*", lambda found: numbers[found.group(1)], text)
             words = [numbers.get(word, word) for word in line.split()]
             if file in JOURNALS:
-                found.append((" ".join([file, NUMBERS["n"], *words[1:]]), f"Of journal {NUMBERS['n']}: {text}"))
+                found.append((" ".join([file, NUMBERS["n"], *words[1:]]), f"Journal {NUMBERS['n']}: {text}"))
             found.append((" ".join(words), text))
         if file == "apt":
             line, text = [it for it in found if it[1]][-1]
-            yield line.replace("apt", "own", 1), f"Of the owner's instruction: {text}"
+            yield line.replace("apt", "own", 1), f"Owner's instruction: {text}"
         yield from found
 
 

@@ -8,9 +8,9 @@ examples/, on the stems and journals that the tests work out by hand, each under
 places, and on words and files that are refused. Each run is made once as it is and once under valgrind, which looks at each
 access of memory and, at the end, at what was not given back: exit status, output and errors are to be the same (of several
 harvesters at once, the status alone: their order is free), and valgrind is to be silent. The last line is
-'N passed, M failed', and the status is 0 where none failed.
+'N passed, M failed', and the status is 0 if none failed.
 
-Where there is no valgrind, or no program, it says so, and ends with status 0 for the first and 2 for the other.
+If there is no valgrind, or no program, it says so, and ends with status 0 for the first and 2 for the other.
 """
 import argparse
 import os

@@ -40,7 +40,7 @@ ABOUT = {
     "wrong_world::steps::*": ("buck_world", "World::step"),
 }
 
-# Calls of lists of the standard library: of the product only where their type is named.
+# Calls of lists of the standard library: of the product only if their type is named.
 OF_LISTS = {"as_slice", "clone", "get", "is_empty", "iter", "len", "next", "push", "read", "write"}
 
 # Calls that only look, beside those that take nothing but the value itself.

@@ -40,15 +40,15 @@ extern "C" {
 #endif
 
 /* The version of the calls: one more for each change of them. */
-#define BUCKFLEET_VERSION 7
+#define BUCKFLEET_VERSION 8
 
 /* How a call ended. Those up to 5 are exit statuses of the program. */
 enum {
     BUCKFLEET_OK = 0,
     BUCKFLEET_REFUSED = 1,   /* the bytes of a file, a stem or targets are refused */
     BUCKFLEET_SEATS = 2,     /* there are not 1 to 64 stem files */
-    BUCKFLEET_MEMORY = 3,    /* memory ran out, or there are more than 1,000,000 stems */
-    BUCKFLEET_UNLAWFUL = 4,  /* the journal isn't lawful for the instruction */
+    BUCKFLEET_MEMORY = 3,    /* memory ran out, or there are more than 1,000,000 stems or postings */
+    BUCKFLEET_UNLAWFUL = 4,  /* a journal isn't lawful for the instruction, or not of the stem files or by the rule */
     BUCKFLEET_READ = 5,      /* a file has more than 67,108,864 bytes */
     BUCKFLEET_TOO_SMALL = 6, /* `out` is too small */
     BUCKFLEET_CLOSED = 7,    /* the block holds no book */
@@ -119,6 +119,82 @@ typedef struct buckfleet_texts {
  */
 uint8_t buckfleet_in_turn(const uint8_t *files, size_t files_length, const size_t *lengths, size_t lengths_length,
     uint8_t rule, uint8_t *out, size_t out_length, buckfleet_texts *texts);
+
+/*
+ * Calls over several files: `files` has the bytes of files, one after another, and `lengths` that of each. They answer
+ * OK, REFUSED, SEATS, MEMORY, READ, TOO_SMALL, MISUSED (also if there are not the files that the call names, or the
+ * lengths don't add up to `files_length`), and those over journals UNLAWFUL too. They work in one thread.
+ */
+
+/* In place of a number: the instruction's own. */
+#define BUCKFLEET_OWN 4294967295u
+
+/* In place of a rule, for buckfleet_check_with alone: prices need follow none. */
+#define BUCKFLEET_ANY_RULE 255
+
+/* Numbers in place of the instruction's, as the program's `--period` and `--limit`. */
+typedef struct buckfleet_numbers {
+    uint32_t period; /* in stems, 1 to 1,000, or BUCKFLEET_OWN */
+    uint32_t limit;  /* per mille, 0 to 1,000, or BUCKFLEET_OWN */
+} buckfleet_numbers;
+
+/* The numbers of two runs that are compared. */
+typedef struct buckfleet_pair {
+    buckfleet_numbers first;
+    buckfleet_numbers second;
+} buckfleet_pair;
+
+/* A run: its numbers and its rule. */
+typedef struct buckfleet_run {
+    buckfleet_numbers numbers;
+    uint8_t rule; /* BUCKFLEET_STEADY to _ROOT */
+} buckfleet_run;
+
+/* Shuffled orders of the stems, as the program's `--draws` and `--seed`. */
+typedef struct buckfleet_draws {
+    uint64_t seed;   /* the program's is 1 if none is given */
+    uint16_t number; /* 0: no orders but the files' own */
+} buckfleet_draws;
+
+/* A run that is made in shuffled orders too. */
+typedef struct buckfleet_drawn_run {
+    buckfleet_run run;
+    buckfleet_draws draws;
+} buckfleet_drawn_run;
+
+/*
+ * As `buckfleet check APT JOURNAL STM..`: checks a journal, also against stem files and a rule. `files`: instruction,
+ * journal, and 0 to 64 stem files; none: stems aren't compared.
+ */
+uint8_t buckfleet_check_with(const uint8_t *files, size_t files_length, const size_t *lengths, size_t lengths_length,
+    const buckfleet_run *run, uint8_t *out, size_t out_length, size_t *written);
+
+/*
+ * As `buckfleet appraise`: what journals bring under an owner's contract, as CSV. `files`: instruction, contract, and
+ * 1 to 64 journals.
+ */
+uint8_t buckfleet_appraise(const uint8_t *files, size_t files_length, const size_t *lengths, size_t lengths_length,
+    const buckfleet_numbers *numbers, uint8_t *out, size_t out_length, size_t *written);
+
+/* As `buckfleet compare`: two journals side by side, as CSV. `files`: instruction, and two journals. */
+uint8_t buckfleet_compare(const uint8_t *files, size_t files_length, const size_t *lengths, size_t lengths_length,
+    const buckfleet_pair *pair, uint8_t *out, size_t out_length, size_t *written);
+
+/*
+ * As `buckfleet sweep`: a head and a line of CSV for each run, in order, over the same stems. `files`: instruction, a
+ * file of targets (of no bytes: the instruction's targets), and 1 to 64 stem files. `runs`: any number; none: the head.
+ */
+uint8_t buckfleet_sweep(const uint8_t *files, size_t files_length, const size_t *lengths, size_t lengths_length,
+    const buckfleet_run *runs, size_t runs_length, const buckfleet_draws *draws, uint8_t *out, size_t out_length,
+    size_t *written);
+
+/* As `buckfleet wishes`: a line of CSV for what each target costs. `files` as of buckfleet_sweep. */
+uint8_t buckfleet_wishes(const uint8_t *files, size_t files_length, const size_t *lengths, size_t lengths_length,
+    const buckfleet_drawn_run *run, uint8_t *out, size_t out_length, size_t *written);
+
+/* As `buckfleet tune`: the instruction, with prices that such stems ask for. `files` as of buckfleet_sweep. */
+uint8_t buckfleet_tune(const uint8_t *files, size_t files_length, const size_t *lengths, size_t lengths_length,
+    const buckfleet_run *run, uint8_t *out, size_t out_length, size_t *written);
 
 /*
  * The block of the caller's memory for a book, in which stems are cut one by one as they are felled. The caller makes

@@ -32,7 +32,7 @@ static int fail(const char *what, int status) {
     return status;
 }
 
-/* The bytes of a file, in memory that grows by half; 0 where it can't be read. */
+/* The bytes of a file, in memory that grows by half; 0 if it can't be read. */
 static int read_file(const char *name, struct bytes *file) {
     FILE *stream = fopen(name, "rb");
     size_t room = 0, got = 1;

@@ -4,7 +4,7 @@
  *     cut_stems steady|linear|step|root APT STM [JOURNAL]
  *
  * It prints a line for each stem as it is cut, and then how all classes stand: what `buckfleet fleet --rule` prints of
- * these files. The journal goes into the file JOURNAL, where one is named.
+ * these files. The journal goes into the file JOURNAL, if one is named.
  *
  *     scripts/c_library
  *     cc -Iout/c examples/c/cut_stems.c out/c/libbuckfleet.a -o cut_stems
@@ -25,7 +25,7 @@ struct bytes {
     size_t length;
 };
 
-/* A stem as a stem file has it; a harvester has it from its sensors. Where a number is above what its type holds, or
+/* A stem as a stem file has it; a harvester has it from its sensors. If a number is above what its type holds, or
  * there are too many, it is another stem's, and not to be cut. */
 struct stem {
     int is_spoilt;
@@ -36,7 +36,7 @@ struct stem {
     size_t zones_length;
 };
 
-/* The bytes of a file and a zero behind them; none where it can't be read. */
+/* The bytes of a file and a zero behind them; none if it can't be read. */
 static struct bytes file_of(const char *name) {
     struct bytes file = { NULL, 0 };
     FILE *stream = fopen(name, "rb");
@@ -51,7 +51,7 @@ static struct bytes file_of(const char *name) {
     return file;
 }
 
-/* The next number, of at most so much, and what stands behind it: the same place where there is none. */
+/* The next number, of at most so much, and what stands behind it: the same place if there is none. */
 static unsigned long long number_at(struct stem *stem, const char *at, unsigned long long most, const char **behind) {
     char *end;
     unsigned long long number = strtoull(at, &end, 10);
@@ -102,7 +102,7 @@ static const char *item_into(struct stem *stem, const char *at) {
     return at ? at + 1 : "";
 }
 
-/* The next stem of a stem file, and where it ends; NULL where there is none. */
+/* The next stem of a stem file, and where it ends; NULL if there is none. */
 static const char *next_stem(const char *at, struct stem *stem) {
     memset(stem, 0, sizeof *stem);
     stem->felled.harvester = 1;

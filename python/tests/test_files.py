@@ -69,6 +69,14 @@ class Files(unittest.TestCase):
             (buckfleet.view, (APT, b"1 2 APT~"), buckfleet.REFUSED, "journal fault 2"),
             (buckfleet.in_turn, (APT, []), buckfleet.SEATS, "seats"),
             (buckfleet.in_turn, (APT, [b"1 2 STM~", b"1 2 APT~"]), buckfleet.REFUSED, "stm 2 fault 2"),
+            (buckfleet.check_with, (APT, JOURNAL, STMS[::-1]), buckfleet.UNLAWFUL, "check fault 1 1 1"),
+            (buckfleet.check_with, (APT, JOURNAL, [], "root"), buckfleet.UNLAWFUL, "check fault 4 1 0 533 416"),
+            (buckfleet.appraise, (APT, [JOURNAL, JOURNAL, b""], APT), buckfleet.REFUSED, "journal 3 fault 2"),
+            (buckfleet.appraise, (APT, [JOURNAL], JOURNAL), buckfleet.REFUSED, "own fault 2"),
+            (buckfleet.compare, (APT, JOURNAL, b"1 2 JRN~"), buckfleet.UNLAWFUL, "replay 2 fault 1 0"),
+            (buckfleet.sweep, (APT, []), buckfleet.SEATS, "seats"),
+            (buckfleet.wishes, (APT, STMS, "step", None, None, b""), buckfleet.REFUSED, "targets fault 1"),
+            (buckfleet.tune, (APT, STMS, "step", None, None, JOURNAL), buckfleet.REFUSED, "targets fault 1"),
         ):
             with self.subTest(line), self.assertRaises(buckfleet.Refused) as caught:
                 call(*files)
@@ -82,6 +90,13 @@ class Files(unittest.TestCase):
             buckfleet.in_turn(APT, STMS, "none")
         with self.assertRaises(TypeError):
             buckfleet.in_turn(APT, STMS[0])
+        for call in (buckfleet.sweep, buckfleet.tune):
+            self.assertRaises(TypeError, call, APT, STMS[0])
+        self.assertRaises(TypeError, buckfleet.appraise, APT, JOURNAL, APT)
+        self.assertRaises(ValueError, buckfleet.wishes, APT, STMS, "none")
+        self.assertRaises(ValueError, buckfleet.tune, APT, STMS, "step", 2**32 - 1)
+        self.assertRaises(ValueError, buckfleet.sweep, APT, STMS, draws=65_536)
+        self.assertRaises(ValueError, buckfleet.compare, APT, JOURNAL, JOURNAL, (None,))
 
     def test_tables(self):
         for what in buckfleet.TABLES:
@@ -112,6 +127,37 @@ class Files(unittest.TestCase):
         self.assertEqual(buckfleet.report(APT, turns.journal), turns.report)
         self.assertNotEqual(buckfleet.in_turn(APT, STMS, "step").journal, turns.journal)
         self.assertEqual(buckfleet.in_turn(APT, STMS), buckfleet.in_turn(APT, STMS, "steady"))
+
+    def test_ties(self):
+        journal = buckfleet.in_turn(APT, STMS, "linear").journal
+        self.assertEqual(buckfleet.check_with(APT, JOURNAL), b"LAWFUL 90\n")
+        self.assertEqual(buckfleet.check_with(APT, journal, STMS, "linear"), b"LAWFUL 90\n")
+        for numbers, status in (((0,), buckfleet.MISUSED), ((None, 1001), buckfleet.MISUSED), ((7,), buckfleet.UNLAWFUL)):
+            with self.assertRaises(buckfleet.Refused) as caught:
+                buckfleet.check_with(APT, journal, [], None, *numbers)
+            self.assertEqual(caught.exception.status, status)
+            self.assertNotEqual(str(caught.exception), "")
+
+    def test_worths(self):
+        rows = buckfleet.appraise(APT, [JOURNAL], APT)
+        self.assertEqual((rows[-1]["line"], rows[-1]["worth_millionths"], rows[-1]["loss_millionths"]),
+                         ("total", 21993797640, 613000170))
+        rows = buckfleet.compare(APT, JOURNAL, buckfleet.in_turn(APT, STMS, "linear").journal)
+        worth = next(row for row in rows if row["figure"] == "base_worth_millionths")
+        self.assertEqual((worth["first"], worth["second"], worth["difference"]), (21993797640, 22023118800, 29321160))
+
+    def test_harvests(self):
+        rows = buckfleet.sweep(APT, STMS, rules=("step",), periods=(1, 5))
+        self.assertEqual([row["cost_ten_thousandths"] for row in rows], [398, 346])
+        self.assertEqual(rows.text.count(b"\n"), 3)
+        self.assertEqual(buckfleet.sweep(APT, STMS, rules=("step",), periods=(1, 5), targets=APT).text, rows.text)
+        drawn = buckfleet.sweep(APT, STMS, rules=("step",), draws=3, seed=2**64 - 1)
+        self.assertEqual(drawn.columns[: len(rows.columns)], rows.columns)
+        self.assertLessEqual(drawn[0]["cost_min"], drawn[0]["cost_max"])
+        wishes = buckfleet.wishes(APT, STMS, "linear")
+        self.assertEqual((len(wishes.columns), wishes[1]["gain_millionths"]), (19, 52180890))
+        tuned = buckfleet.tune(example("mill.apt"), [example("bank.stm")], period=1, limit=80)
+        self.assertEqual(tuned.split(b"\n")[13], b"3375 3671 3757 3981 3998 4292 4326 4159 4468 4479")
 
     def test_threads(self):
         found = []

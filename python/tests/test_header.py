@@ -13,9 +13,14 @@ STRUCTURES = {
     "buckfleet_appraisal": _library.Appraisal,
     "buckfleet_book": _library.Block,
     "buckfleet_cutting": _library.Cutting,
+    "buckfleet_drawn_run": _library.DrawnRun,
+    "buckfleet_draws": _library.Draws,
     "buckfleet_felled": _library.Felled,
     "buckfleet_log": _library.Log,
     "buckfleet_named": _library.Named,
+    "buckfleet_numbers": _library.Numbers,
+    "buckfleet_pair": _library.Pair,
+    "buckfleet_run": _library.Run,
     "buckfleet_standing": _library.Standing,
     "buckfleet_terms": _library.Terms,
     "buckfleet_texts": _library.Texts,
@@ -68,7 +73,8 @@ class Header(unittest.TestCase):
         for words in (buckfleet.RULES, buckfleet.TABLES):
             self.assertEqual([named[word.upper()] for word in words], list(range(len(words))))
         self.assertEqual([named[word.upper()] for word in buckfleet.REASONS], list(range(1, len(buckfleet.REASONS) + 1)))
-        self.assertEqual((_library.MOST_LOGS, _library.NO_DEGREE), (named["MOST_LOGS"], named["NO_DEGREE"]))
+        for name in ("MOST_LOGS", "NO_DEGREE", "OWN", "ANY_RULE"):
+            self.assertEqual(getattr(_library, name), named[name], name)
 
 
 if __name__ == "__main__":

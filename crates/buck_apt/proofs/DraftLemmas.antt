@@ -16,7 +16,7 @@ use Rattle.buck_apt.specs.declared.fault.AptFault.TheVariants.{Digits}
 use Rattle.buck_apt.specs.declared.slots.TheConstants.{HEAD, ALONE, IN_ASSORTMENT, MODULE, PERIOD, LIMIT, COUNT, NAME, TRIM}
 use Rattle.buck_apt.specs.Instruction.{AssortmentParts, InstructionParts, IsAssortment, IsInstruction}
 use Rattle.buck_apt.specs.Apt.{groups, says_apt, begins_with_name}
-unfoldable use Rattle.buck_apt.specs.Apt.{group_present, present, group_single, single, numbers_or, wood_of, sizes_of, tables_of, draft_of, file_draft_of, draft_in}
+unfoldable use Rattle.buck_apt.specs.Apt.{group_present, present, group_single, single, numbers_or, draft_of, file_draft_of, draft_in}
 use Rattle.buck_record.specs.writing.Written.{blank, row_start}
 use Rattle.buck_apt.proofs.Items.{assortment_items, items_in, draft_for, file_draft_for}
 unfoldable use Rattle.buck_apt.proofs.Items.{member_items, head_items}
@@ -29,27 +29,6 @@ one_again : (n : ℕ) → n ≤ 4294967295 → numbers_of (said blank (n ∷ [])
 one_again n le = said_again blank blank_white (n ∷ []) (omega arith) (le, tt)
 
 module _ (a : AssortmentParts) (h : IsAssortment a) where
-  wood_again : wood_of (assortment_items a) ≡ Ok (draft_for a).wood
-  unfolding wood_of numbers_in rest_in member_items
-  wood_again =
-      rw (
-        one_again a.species (let s = h.species in omega arith),
-        said_again blank blank_white a.grades (let s = h.grades_number in omega arith)
-            (small_within 1 8 (omega arith) a.grades h.grades_range),
-        one_again a.price_kind (let s = h.price_kind in omega arith),
-      ) refl
-
-  sizes_again : sizes_of (assortment_items a) ≡ Ok (draft_for a).sizes
-  unfolding sizes_of numbers_in rest_in member_items
-  sizes_again =
-      rw (
-        said_again blank blank_white a.diameters (let s = h.rows in omega arith)
-            (small_from 1500 (omega arith) a.diameters h.diameters_range),
-        one_again a.upper (let s = h.upper_range in omega arith),
-        said_again blank blank_white a.lengths (let s = h.columns in omega arith)
-            (small_within 500 30000 (omega arith) a.lengths h.lengths_range),
-      ) refl
-
   trim_again : numbers_or 0 TRIM (assortment_items a) ≡ Ok (a.trim ∷ [])
   unfolding numbers_or numbers_in rest_in member_items
   trim_again =
@@ -58,11 +37,20 @@ module _ (a : AssortmentParts) (h : IsAssortment a) where
         | inr some ↦ rw some (rw (one_again a.trim (let s = h.trim_range in omega arith)) refl)
       ]
 
-  tables_again : tables_of (assortment_items a) ≡ Ok (draft_for a).tables
-  unfolding tables_of numbers_in rest_in member_items
-  tables_again =
+  draft_again : draft_of (assortment_items a) ≡ Ok (draft_for a)
+  unfolding draft_of numbers_in rest_in member_items
+  draft_again =
       let rows : AreWhite (row_start (length a.lengths)) = row_white (length a.lengths) in
       rw (
+        one_again a.species (let s = h.species in omega arith),
+        said_again blank blank_white a.grades (let s = h.grades_number in omega arith)
+            (small_within 1 8 (omega arith) a.grades h.grades_range),
+        one_again a.price_kind (let s = h.price_kind in omega arith),
+        said_again blank blank_white a.diameters (let s = h.rows in omega arith)
+            (small_from 1500 (omega arith) a.diameters h.diameters_range),
+        one_again a.upper (let s = h.upper_range in omega arith),
+        said_again blank blank_white a.lengths (let s = h.columns in omega arith)
+            (small_within 500 30000 (omega arith) a.lengths h.lengths_range),
         said_again (row_start (length a.lengths)) rows a.prices (omega (arith, classes_some a h, h.prices_number))
             (small_from 10000000 (omega arith) a.prices h.prices_range),
         said_again (row_start (length a.lengths)) rows a.targets (omega (arith, classes_some a h, h.targets_number))
@@ -70,25 +58,13 @@ module _ (a : AssortmentParts) (h : IsAssortment a) where
         trim_again,
       ) refl
 
-  draft_again : draft_of (assortment_items a) ≡ Ok (draft_for a)
-  unfolding draft_of rest_in
-  draft_again = rw (wood_again, sizes_again, tables_again) refl
-
   present_again : group_present (assortment_items a) ≡ Ok tt
   unfolding group_present member_items
-  present_again =
-      elim (cases_Bool (a.trim == 0)) [
-        | inl none ↦ rw none refl
-        | inr some ↦ rw some refl
-      ]
+  present_again = elim (cases_Bool (a.trim == 0)) [ inl none ↦ rw none refl | inr some ↦ rw some refl ]
 
   single_again : group_single (assortment_items a) ≡ Ok tt
   unfolding group_single member_items
-  single_again =
-      elim (cases_Bool (a.trim == 0)) [
-        | inl none ↦ rw none refl
-        | inr some ↦ rw some refl
-      ]
+  single_again = elim (cases_Bool (a.trim == 0)) [ inl none ↦ rw none refl | inr some ↦ rw some refl ]
 
 count-append : (s : Slot) (xs ys : List ItemParts) → count_in s (xs ++ ys) ≡ count_in s xs + count_in s ys
 count-append s xs ys = sum_by-append (λ x. cond (is_at s x) 1 0) xs ys
@@ -110,10 +86,8 @@ count_names : (rest : List AssortmentParts) → count_in NAME (all_items rest) �
 unfolding all_items member_items
 count_names [] = refl
 count_names (a ∷ rest) =
-    let own : count_in NAME (assortment_items a) ≡ 1 = elim (cases_Bool (a.trim == 0)) [
-      | inl none ↦ rw none refl
-      | inr some ↦ rw some refl
-    ] in
+    let own : count_in NAME (assortment_items a) ≡ 1 =
+    elim (cases_Bool (a.trim == 0)) [ inl none ↦ rw none refl | inr some ↦ rw some refl ] in
     omega (arith, count-append NAME (assortment_items a) (flat_map assortment_items rest), own, count_names rest)
 
 outside : (IsOutside file_slot) × (IsOutside MODULE) × (IsOutside PERIOD) × (IsOutside LIMIT) × (IsOutside COUNT)

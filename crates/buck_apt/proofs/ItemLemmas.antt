@@ -29,10 +29,7 @@ blank_white k = refl
 
 pub row_white : (columns : ℕ) → AreWhite (row_start columns)
 row_white columns k =
-    elim (cases_Bool (k % columns == 0)) [
-      | inl start ↦ rw start refl
-      | inr other ↦ rw other refl
-    ]
+    elim (cases_Bool (k % columns == 0)) [ inl start ↦ rw start refl | inr other ↦ rw other refl ]
 
 -- the heads of items, in digits
 heads_are : (codes "1 2" ≡ decimal 1 ++ 32 ∷ decimal 2)

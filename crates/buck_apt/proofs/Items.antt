@@ -48,9 +48,15 @@ items_in i = head_items i ++ flat_map assortment_items i.assortments
 abbrev pub draft_for : AssortmentParts → Draft
 draft_for a = record {
   name = a.name;
-  wood = record { species = a.species ∷ []; grades = a.grades; price_kind = a.price_kind ∷ [] };
-  sizes = record { diameters = a.diameters; upper = a.upper ∷ []; lengths = a.lengths };
-  tables = record { prices = a.prices; targets = a.targets; trim = a.trim ∷ [] };
+  species = a.species ∷ [];
+  grades = a.grades;
+  price_kind = a.price_kind ∷ [];
+  diameters = a.diameters;
+  upper = a.upper ∷ [];
+  lengths = a.lengths;
+  prices = a.prices;
+  targets = a.targets;
+  trim = a.trim ∷ [];
 }
 
 -- the draft that says an instruction

@@ -108,7 +108,7 @@ each_draft f [] h = refl
 each_draft f (a ∷ rest) h = rw (h.0, each_draft f rest h.1) refl
 
 too_many : Draft → Bool
-too_many d = nat_lt MOST_TARGETS_TOGETHER (sum d.tables.targets)
+too_many d = nat_lt MOST_TARGETS_TOGETHER (sum d.targets)
 
 few_before : (rest : List AssortmentParts) → AllByRecursion IsAssortment rest
     → position_or_len too_many (map draft_for rest) ≡ length (map draft_for rest)
@@ -117,7 +117,7 @@ few_before [] h = refl
 few_before (a ∷ rest) h = let more = few_before rest h.1 in rw (targets_few a h.0) (omega (arith, more))
 
 few_targets : (rest : List AssortmentParts) → AllByRecursion IsAssortment rest
-    → position (λ d. nat_lt MOST_TARGETS_TOGETHER (sum d.tables.targets)) (map draft_for rest) ≡ None
+    → position (λ d. nat_lt MOST_TARGETS_TOGETHER (sum d.targets)) (map draft_for rest) ≡ None
 unfolding too_many
 few_targets rest h =
     let none : length (map draft_for rest) ≤ position_or_len too_many (map draft_for rest) =
@@ -158,7 +158,7 @@ module _ (i : InstructionParts) (h : IsInstruction i) where
   steps_again : on_module (file_draft_for i) ≡ Ok tt
   unfolding on_module
   steps_again =
-      each_draft (λ d. none_found (first_off_module i.«module» d.sizes.lengths) Module) i.assortments
+      each_draft (λ d. none_found (first_off_module i.«module» d.lengths) Module) i.assortments
       (recursion_from_All _ i.assortments
       (λ k d lt. ap (λ o. none_found o Module)
       (off_none i.«module» _ (recursion_from_All (λ l. l % i.«module» ≡ 0) _ (h.on_module k d lt)))))

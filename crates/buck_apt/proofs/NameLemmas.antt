@@ -3,22 +3,20 @@ use Rattle.std.proofs.Common.{◌≡◌, List, [], ◌∷◌, ℕ, Result, Ok, E
 use Rattle.std.specs.List.{AllByRecursion}
 use Rattle.buck_record.specs.Item.{ItemParts}
 use Rattle.buck_record.specs.bytes.White.{trim}
-use Rattle.buck_record.specs.checking.Table.{rest_in}
+use Rattle.buck_record.specs.Reading.{with_fault}
+use Rattle.buck_record.specs.bytes.Record.{items_of}
+use Rattle.buck_record.specs.checking.Table.{only_in}
 use Rattle.buck_record.specs.checking.Check.{◌>>=◌, check}
 unfoldable use Rattle.buck_record.specs.checking.Check.{make_each}
 use Rattle.buck_record.specs.checking.Rules.{numbers_in}
 use Rattle.buck_record.proofs.TrimLemmas.{AreBare, kept_bare, groups_bare, rest_bare}
 use Rattle.buck_apt.specs.declared.draft.Draft.{Draft}
-use Rattle.buck_apt.specs.declared.draft.Wood.{Wood}
-use Rattle.buck_apt.specs.declared.draft.Sizes.{Sizes}
-use Rattle.buck_apt.specs.declared.draft.Tables.{Tables}
 use Rattle.buck_apt.specs.declared.draft.FileDraft.{FileDraft}
 use Rattle.buck_apt.specs.declared.fault.AptFault.{AptFault}
 use Rattle.buck_apt.specs.declared.fault.AptFault.TheVariants.{Head, Digits, NotApt}
-use Rattle.buck_apt.specs.declared.slots.TheConstants.{MODULE, PERIOD, LIMIT, COUNT, NAME}
-use Rattle.buck_apt.specs.Apt.{table, groups, says_apt, present, single, wood_of, sizes_of, tables_of}
+use Rattle.buck_apt.specs.declared.slots.TheConstants.{MODULE, PERIOD, LIMIT, COUNT, NAME, SPECIES, GRADES, PRICE_KIND, DIAMETERS, UPPER, LENGTHS, PRICES, TARGETS, TRIM}
+use Rattle.buck_apt.specs.Apt.{table, groups, says_apt, present, single, numbers_or}
 unfoldable use Rattle.buck_apt.specs.Apt.{draft_of, file_draft_of, draft_in}
-use Rattle.buck_apt.specs.inner.Ready.{WereRead}
 
 -- drafts of which each name is trimmed
 abbrev pub IsNamed : Draft → Type 0
@@ -27,68 +25,57 @@ IsNamed d = trim d.name ≡ d.name
 abbrev pub AreNamed : FileDraft → Type 0
 AreNamed file = AllByRecursion IsNamed file.drafts
 
-of_draft : (name : List ℕ) (w : Result Wood AptFault) (s : Result Sizes AptFault) (t : Result Tables AptFault) (d : Draft)
-    → (w >>= λ wood. s >>= λ sizes. t >>= λ tables. Ok (record { name = name; wood = wood; sizes = sizes; tables = tables }))
-    ≡ Ok d
-    → trim name ≡ name → IsNamed d
-of_draft name (Err e) s t d h bare = cc
-of_draft name (Ok w) (Err e) t d h bare = cc
-of_draft name (Ok w) (Ok s) (Err e) d h bare = cc
-of_draft name (Ok w) (Ok s) (Ok t) d h bare =
-    let e : record { name = name; wood = w; sizes = s; tables = t } ≡ d = cc in subst IsNamed e bare
+-- what a step gave, and what the steps after it gave
+then_made : {X Y : Type 0} (r : Result X AptFault) (q : X → Result Y AptFault) (y : Y)
+    → (r >>= q) ≡ Ok y → (x : X) × (r ≡ Ok x) × (q x ≡ Ok y)
+then_made (Ok x) q y h = (x, refl, h)
+then_made (Err e) q y h = cc
+
+made_is : {X : Type 0} (x y : X) (r : Result X AptFault) → r ≡ Ok x → r ≡ Ok y → x ≡ y
+made_is x y r h k = cc
 
 draft_named : (group : List ItemParts) (d : Draft) → AreBare group → draft_of group ≡ Ok d → IsNamed d
 unfolding draft_of
 draft_named group d bare h =
-    of_draft (rest_in NAME group) (wood_of group) (sizes_of group) (tables_of group) d h (rest_bare NAME group bare)
-
-one_more : (group : List ItemParts) → AreBare group → (r : Result Draft AptFault) → draft_of group ≡ r
-    → (q : Result (List Draft) AptFault) → ((ds : List Draft) → q ≡ Ok ds → AllByRecursion IsNamed ds)
-    → (made : List Draft) → (r >>= λ y. q >>= λ ys. Ok (y ∷ ys)) ≡ Ok made → AllByRecursion IsNamed made
-one_more group bare (Err e) is q more made h = cc
-one_more group bare (Ok d) is (Err e) more made h = cc
-one_more group bare (Ok d) is (Ok ds) more made h =
-    let e : d ∷ ds ≡ made = cc in subst (AllByRecursion IsNamed) e (draft_named group d bare is, more ds refl)
+    let species = then_made (numbers_in Digits SPECIES group) _ d h in
+    let grades = then_made (numbers_in Digits GRADES group) _ d species.2 in
+    let price_kind = then_made (numbers_in Digits PRICE_KIND group) _ d grades.2 in
+    let diameters = then_made (numbers_in Digits DIAMETERS group) _ d price_kind.2 in
+    let upper = then_made (numbers_in Digits UPPER group) _ d diameters.2 in
+    let lengths = then_made (numbers_in Digits LENGTHS group) _ d upper.2 in
+    let prices = then_made (numbers_in Digits PRICES group) _ d lengths.2 in
+    let targets = then_made (numbers_in Digits TARGETS group) _ d prices.2 in
+    let trim = then_made (numbers_or 0 TRIM group) _ d targets.2 in
+    subst IsNamed (made_is _ d _ refl trim.2) (rest_bare NAME group bare)
 
 drafts_named : (groups : List (List ItemParts)) (made : List Draft) → AllByRecursion AreBare groups
     → make_each draft_of groups ≡ Ok made → AllByRecursion IsNamed made
 unfolding make_each
-drafts_named [] made bare h = let e : [] ≡ made = cc in subst (AllByRecursion IsNamed) e tt
+drafts_named [] made bare h = subst (AllByRecursion IsNamed) (made_is [] made _ refl h) tt
 drafts_named (group ∷ groups) made bare h =
-    one_more group bare.0 (draft_of group) refl (make_each draft_of groups) (λ ds e. drafts_named groups ds bare.1 e) made h
-
-of_file : (m p l c : Result (List ℕ) AptFault) (r : Result (List Draft) AptFault) (file : FileDraft)
-    → ((ds : List Draft) → r ≡ Ok ds → AllByRecursion IsNamed ds)
-    → (m >>= λ step. p >>= λ period. l >>= λ limit. c >>= λ count. r >>= λ drafts.
-    Ok (record { «module» = step; period = period; limit = limit; count = count; drafts = drafts })) ≡ Ok file
-    → AreNamed file
-of_file (Err e) p l c r file named h = cc
-of_file (Ok m) (Err e) l c r file named h = cc
-of_file (Ok m) (Ok p) (Err e) c r file named h = cc
-of_file (Ok m) (Ok p) (Ok l) (Err e) r file named h = cc
-of_file (Ok m) (Ok p) (Ok l) (Ok c) (Err e) file named h = cc
-of_file (Ok m) (Ok p) (Ok l) (Ok c) (Ok ds) file named h =
-    let e : record { «module» = m; period = p; limit = l; count = c; drafts = ds } ≡ file = cc in
-    subst AreNamed e (named ds refl)
+    let first = then_made (draft_of group) _ made h in
+    let more = then_made (make_each draft_of groups) _ made first.2 in
+    subst (AllByRecursion IsNamed) (made_is _ made _ refl more.2)
+    (draft_named group first.0 bare.0 first.1, drafts_named groups more.0 bare.1 more.1)
 
 file_named : (items : List ItemParts) (file : FileDraft) → AreBare items → file_draft_of items ≡ Ok file → AreNamed file
 unfolding file_draft_of
 file_named items file bare h =
-    of_file (numbers_in Digits MODULE items) (numbers_in Digits PERIOD items) (numbers_in Digits LIMIT items)
-    (numbers_in Digits COUNT items) (make_each draft_of (groups items)) file
-    (λ ds e. drafts_named (groups items) ds (groups_bare NAME items bare) e) h
+    let step = then_made (numbers_in Digits MODULE items) _ file h in
+    let period = then_made (numbers_in Digits PERIOD items) _ file step.2 in
+    let limit = then_made (numbers_in Digits LIMIT items) _ file period.2 in
+    let count = then_made (numbers_in Digits COUNT items) _ file limit.2 in
+    let drafts = then_made (make_each draft_of (groups items)) _ file count.2 in
+    subst AreNamed (made_is _ file _ refl drafts.2)
+    (drafts_named (groups items) drafts.0 (groups_bare NAME items bare) drafts.1)
 
-then_made : {X : Type 0} (r : Result (Unit {0}) AptFault) (q : Result X AptFault) (x : X)
-    → (r >>= λ _. q) ≡ Ok x → q ≡ Ok x
-then_made (Ok u) q x h = h
-then_made (Err e) q x h = cc
-
--- the names of a draft that items say
-pub draft_in_named : (items : List ItemParts) (file : FileDraft) → WereRead items → draft_in items ≡ Ok file
-    → AreNamed file
+-- the names of a draft that the items of some bytes say
+pub draft_in_named : (bytes : List ℕ) (items : List ItemParts) (file : FileDraft)
+    → with_fault Head (only_in table (items_of bytes)) ≡ Ok items → draft_in items ≡ Ok file → AreNamed file
 unfolding draft_in
-draft_in_named items file read h =
-    let bare = kept_bare Head table read.0 items read.1 in
-    let first = then_made (check (says_apt items) NotApt) _ file h in
-    let second = then_made (present items) _ file first in
-    file_named items file bare (then_made (single items) (file_draft_of items) file second)
+draft_in_named bytes items file read h =
+    let bare = kept_bare Head table bytes items read in
+    let says = then_made (check (says_apt items) NotApt) _ file h in
+    let there = then_made (present items) _ file says.2 in
+    let once = then_made (single items) _ file there.2 in
+    file_named items file bare once.2

@@ -12,15 +12,19 @@ use Rattle.buck_record.specs.declared.slot.Slot.{Slot}
 use Rattle.buck_record.specs.checking.Rules.{one_to, is_rising}
 use Rattle.buck_record.proofs.PassLemmas.{AreRanged, passed, check_ok, then_ok, each_ok, both, within_ok, in_range_ok, ranged, counted_ok, counted}
 use Rattle.buck_apt.specs.declared.fault.AptFault.{AptFault}
-use Rattle.buck_apt.specs.declared.fault.AptFault.TheVariants.{Range, Count, Module, Targets}
+use Rattle.buck_apt.specs.declared.fault.AptFault.TheVariants.{Head, Range, Count, Module, Targets}
 use Rattle.buck_apt.specs.declared.slots.TheConstants.{MODULE, PERIOD, LIMIT, COUNT, LONGEST_NAME, SPECIES, GRADES, MOST_GRADES, PRICE_KIND, DIAMETERS, MOST_ROWS, UPPER, LENGTHS, MOST_COLUMNS, PRICES, TARGETS, MOST_TARGETS_TOGETHER, TRIM}
 use Rattle.buck_apt.specs.declared.draft.Draft.{Draft}
 use Rattle.buck_apt.specs.declared.draft.FileDraft.{FileDraft}
 use Rattle.buck_apt.specs.Instruction.{IsAssortment, IsWithin, IsNameByte, IsOnModule}
-use Rattle.buck_apt.specs.Apt.{is_name, is_name_byte, all_above, is_number_of, none_found, first_off_module, draft_range, draft_order, draft_count, in_range, in_order, in_number, on_module, in_targets, within_limits, assortment_of, draft_in}
-use Rattle.buck_apt.specs.inner.Ready.{WereRead, IsReadyDraft, IsReadyFile}
+use Rattle.buck_apt.specs.Apt.{is_name, is_name_byte, all_above, is_number_of, none_found, first_off_module, draft_range, draft_order, draft_count, in_range, in_order, in_number, on_module, in_targets, within_limits}
+use Rattle.buck_apt.specs.Apt.{assortment_of, draft_in, table}
+use Rattle.buck_apt.specs.inner.Ready.{IsReadyDraft, IsReadyFile}
 use Rattle.buck_apt.proofs.NameLemmas.{IsNamed, AreNamed, draft_in_named}
 use Rattle.buck_record.specs.Item.{ItemParts}
+use Rattle.buck_record.specs.Reading.{with_fault}
+use Rattle.buck_record.specs.bytes.Record.{items_of}
+use Rattle.buck_record.specs.checking.Table.{only_in}
 
 -- the one number of an item
 one_of : (item : Slot) (ns : List ℕ) → AreRanged item ns → length ns ≡ 1
@@ -85,36 +89,36 @@ position_none p xs h = λ k d lt. fails_before_first p xs k d (omega (arith, pla
 
 -- an assortment that passed
 draft_ready : (d : Draft) → IsNamed d → draft_range d ≡ Ok tt → draft_order d ≡ Ok tt → draft_count d ≡ Ok tt
-    → sum d.tables.targets ≤ MOST_TARGETS_TOGETHER → IsReadyDraft d
+    → sum d.targets ≤ MOST_TARGETS_TOGETHER → IsReadyDraft d
 unfolding draft_range draft_order draft_count
 draft_ready d named in_ranges ordered counted_all few =
     let r1 = passed (is_name d.name) _ _ in_ranges in
-    let r2 = ranged Range SPECIES d.wood.species _ r1.1 in
-    let r3 = ranged Range GRADES d.wood.grades _ r2.1 in
-    let r4 = ranged Range PRICE_KIND d.wood.price_kind _ r3.1 in
-    let r5 = ranged Range DIAMETERS d.sizes.diameters _ r4.1 in
-    let r6 = ranged Range UPPER d.sizes.upper _ r5.1 in
-    let r7 = ranged Range LENGTHS d.sizes.lengths _ r6.1 in
-    let r8 = ranged Range PRICES d.tables.prices _ r7.1 in
-    let r9 = ranged Range TARGETS d.tables.targets _ r8.1 in
-    let r10 = in_range_ok Range TRIM d.tables.trim r9.1 in
-    let o1 = passed (is_rising d.wood.grades) _ _ ordered in
-    let o2 = passed (is_rising d.sizes.diameters) _ _ o1.1 in
-    let o3 = passed (all_above d.sizes.diameters d.sizes.upper) _ _ o2.1 in
-    let o4 = check_ok (is_rising d.sizes.lengths) _ o3.1 in
-    let c1 = counted Count SPECIES 1 d.wood.species _ counted_all in
-    let c2 = counted Count GRADES MOST_GRADES d.wood.grades _ c1.1 in
-    let c3 = counted Count PRICE_KIND 1 d.wood.price_kind _ c2.1 in
-    let c4 = counted Count DIAMETERS MOST_ROWS d.sizes.diameters _ c3.1 in
-    let c5 = counted Count UPPER 1 d.sizes.upper _ c4.1 in
-    let c6 = counted Count LENGTHS MOST_COLUMNS d.sizes.lengths _ c5.1 in
-    let c7 = passed (length d.tables.prices == length d.sizes.diameters * length d.sizes.lengths) _ _ c6.1 in
-    let c8 = passed (length d.tables.targets == length d.sizes.diameters * length d.sizes.lengths) _ _ c7.1 in
+    let r2 = ranged Range SPECIES d.species _ r1.1 in
+    let r3 = ranged Range GRADES d.grades _ r2.1 in
+    let r4 = ranged Range PRICE_KIND d.price_kind _ r3.1 in
+    let r5 = ranged Range DIAMETERS d.diameters _ r4.1 in
+    let r6 = ranged Range UPPER d.upper _ r5.1 in
+    let r7 = ranged Range LENGTHS d.lengths _ r6.1 in
+    let r8 = ranged Range PRICES d.prices _ r7.1 in
+    let r9 = ranged Range TARGETS d.targets _ r8.1 in
+    let r10 = in_range_ok Range TRIM d.trim r9.1 in
+    let o1 = passed (is_rising d.grades) _ _ ordered in
+    let o2 = passed (is_rising d.diameters) _ _ o1.1 in
+    let o3 = passed (all_above d.diameters d.upper) _ _ o2.1 in
+    let o4 = check_ok (is_rising d.lengths) _ o3.1 in
+    let c1 = counted Count SPECIES 1 d.species _ counted_all in
+    let c2 = counted Count GRADES MOST_GRADES d.grades _ c1.1 in
+    let c3 = counted Count PRICE_KIND 1 d.price_kind _ c2.1 in
+    let c4 = counted Count DIAMETERS MOST_ROWS d.diameters _ c3.1 in
+    let c5 = counted Count UPPER 1 d.upper _ c4.1 in
+    let c6 = counted Count LENGTHS MOST_COLUMNS d.lengths _ c5.1 in
+    let c7 = passed (length d.prices == length d.diameters * length d.lengths) _ _ c6.1 in
+    let c8 = passed (length d.targets == length d.diameters * length d.lengths) _ _ c7.1 in
     let name = both (one_to LONGEST_NAME (length d.name)) (list_all is_name_byte d.name) r1.0 in
-    let species = one_number d.wood.species c1.0 in
-    let price_kind = one_number d.wood.price_kind c3.0 in
-    let upper = one_number d.sizes.upper c5.0 in
-    let trim = one_number d.tables.trim (counted_ok Count TRIM 1 d.tables.trim c8.1) in
+    let species = one_number d.species c1.0 in
+    let price_kind = one_number d.price_kind c3.0 in
+    let upper = one_number d.upper c5.0 in
+    let trim = one_number d.trim (counted_ok Count TRIM 1 d.trim c8.1) in
     record {
       species = species;
       price_kind = price_kind;
@@ -124,25 +128,25 @@ draft_ready d named in_ranges ordered counted_all few =
         name_length = within_ok 1 LONGEST_NAME (length d.name) name.0;
         name_bytes = λ k b lt. name_byte_ok _ (AllPass-from_list_all is_name_byte d.name name.1 k b lt);
         name_trimmed = named;
-        species = one_of SPECIES d.wood.species r2.0 species;
+        species = one_of SPECIES d.species r2.0 species;
         grades_number = c2.0;
         grades_range = r3.0;
-        grades_rise = rising_ok d.wood.grades o1.0;
-        price_kind = one_of PRICE_KIND d.wood.price_kind r4.0 price_kind;
+        grades_rise = rising_ok d.grades o1.0;
+        price_kind = one_of PRICE_KIND d.price_kind r4.0 price_kind;
         rows = c4.0;
         diameters_range = λ k x lt. (r5.0 k x lt).1;
-        diameters_rise = rising_ok d.sizes.diameters o2.0;
-        upper_range = one_of UPPER d.sizes.upper r6.0 upper;
-        upper_above = above_ok d.sizes.diameters d.sizes.upper o3.0 upper;
+        diameters_rise = rising_ok d.diameters o2.0;
+        upper_range = one_of UPPER d.upper r6.0 upper;
+        upper_above = above_ok d.diameters d.upper o3.0 upper;
         columns = c6.0;
         lengths_range = r7.0;
-        lengths_rise = rising_ok d.sizes.lengths o4;
+        lengths_rise = rising_ok d.lengths o4;
         prices_number = eqb-true _ _ c7.0;
         prices_range = λ k x lt. (r8.0 k x lt).1;
         targets_number = eqb-true _ _ c8.0;
         targets_range = λ k x lt. (r9.0 k x lt).1;
         targets_sum = few;
-        trim_range = (one_of TRIM d.tables.trim r10 trim).1;
+        trim_range = (one_of TRIM d.trim r10 trim).1;
       };
     }
 
@@ -209,7 +213,7 @@ each_line_ready s named ranged ordered counted stepped wanted =
     let head = head_ready s ranged counted in
     let orders = each_ok draft_order s.drafts ordered in
     let few =
-    position_none (λ d. nat_lt MOST_TARGETS_TOGETHER (sum d.tables.targets)) s.drafts
+    position_none (λ d. nat_lt MOST_TARGETS_TOGETHER (sum d.targets)) s.drafts
     (none_found_ok _ Targets wanted) in
     let ready : All IsReadyDraft s.drafts =
     λ k d lt. draft_ready _ (names k d lt) (head.ranges k d lt) (orders k d lt) (head.counts k d lt)
@@ -241,7 +245,8 @@ file_ready s named passes =
     let stepped = then_ok (on_module s) _ counted.1 in
     each_line_ready s named ranged.0 ordered.0 counted.0 stepped.0 stepped.1
 
--- the file of items that were read
-pub items_ready : (s : FileDraft) (items : List ItemParts) → WereRead items → draft_in items ≡ Ok s
-    → within_limits s ≡ Ok tt → IsReadyFile s
-items_ready s items read is passes = file_ready s (draft_in_named items s read is) passes
+-- the file of the items of some bytes
+pub items_ready : (s : FileDraft) (bytes : List ℕ) (items : List ItemParts)
+    → with_fault Head (only_in table (items_of bytes)) ≡ Ok items → draft_in items ≡ Ok s → within_limits s ≡ Ok tt
+    → IsReadyFile s
+items_ready s bytes items read is passes = file_ready s (draft_in_named bytes items s read is) passes

@@ -1,5 +1,5 @@
 -- An instruction with other base prices within their limit is within the limits too.
-use Rattle.std.proofs.Common.{◌≡◌, ◌∙◌, ℕ, suc, ◌+◌, ◌≤◌, List, [], ◌∷◌, All, ap, arith, drop, length, refl, sum_by, take}
+use Rattle.std.proofs.Common.{◌≡◌, ◌∙◌, ℕ, suc, ◌≤◌, List, [], ◌∷◌, All, ap, arith, drop, length, refl, rules, sum_by, take}
 use Rattle.std.proofs.lemmas.List.{length-drop, length-take-le}
 use Rattle.std.proofs.lemmas.List.Elements.{All-cons, All-drop, All-head, All-tail, All-take}
 use Rattle.std.proofs.lemmas.List.Sums.{sum_by-cons}
@@ -8,30 +8,7 @@ use Rattle.buck_apt.specs.Priced.{ArePrices, MayBePrices, all_pricing, pricing, 
 
 valid : (ps : List ℕ) (a : AssortmentParts) → IsAssortment a → length ps ≡ classes_of a → All (λ p. p ≤ 10000000) ps
     → IsAssortment (pricing ps a)
-valid ps a h number low = record {
-  name_length = h.name_length;
-  name_bytes = h.name_bytes;
-  name_trimmed = h.name_trimmed;
-  species = h.species;
-  grades_number = h.grades_number;
-  grades_range = h.grades_range;
-  grades_rise = h.grades_rise;
-  price_kind = h.price_kind;
-  rows = h.rows;
-  diameters_range = h.diameters_range;
-  diameters_rise = h.diameters_rise;
-  upper_range = h.upper_range;
-  upper_above = h.upper_above;
-  columns = h.columns;
-  lengths_range = h.lengths_range;
-  lengths_rise = h.lengths_rise;
-  prices_number = number;
-  prices_range = low;
-  targets_number = h.targets_number;
-  targets_range = h.targets_range;
-  targets_sum = h.targets_sum;
-  trim_range = h.trim_range;
-}
+valid ps a h number low = search (rules, h, number, low)
 
 all_valid : (xs : List AssortmentParts) (ps : List ℕ) → All IsAssortment xs → ArePrices ps xs
     → All IsAssortment (all_pricing ps xs)

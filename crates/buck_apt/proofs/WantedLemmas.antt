@@ -1,37 +1,14 @@
 -- An instruction with targets that may be wanted is within the limits too.
-use Rattle.std.proofs.Common.{◌≡◌, ◌∙◌, ℕ, suc, ◌+◌, ◌<◌, ◌≤◌, List, [], ◌∷◌, All, Some, ap, arith, drop, length, refl, slice_get, subst, sum, sum_by, sym, take}
+use Rattle.std.proofs.Common.{◌≡◌, ◌∙◌, ℕ, suc, ◌<◌, ◌≤◌, List, [], ◌∷◌, All, Some, ap, arith, drop, length, refl, rules, slice_get, subst, sum, sum_by, sym, take}
 use Rattle.std.proofs.lemmas.List.{drop-drop, length-drop, length-take-le}
 use Rattle.std.proofs.lemmas.List.Elements.{All-cons, All-drop, All-head, All-tail, All-take}
 use Rattle.std.proofs.lemmas.List.Sums.{sum_by-cons}
-use Rattle.buck_apt.specs.Instruction.{AssortmentParts, InstructionParts, IsAssortment, IsInstruction, IsOnModule, classes, classes_of}
+use Rattle.buck_apt.specs.Instruction.{AssortmentParts, InstructionParts, IsAssortment, IsInstruction, IsOnModule, classes_of}
 use Rattle.buck_apt.specs.Wanted.{AreWantable, MayBeWanted, all_wanting, wanting, with_targets}
 
 valid : (ts : List ℕ) (a : AssortmentParts) → IsAssortment a → length ts ≡ classes_of a → All (λ t. t ≤ 1000000) ts
     → sum ts ≤ 1000000000 → IsAssortment (wanting ts a)
-valid ts a h number low together = record {
-  name_length = h.name_length;
-  name_bytes = h.name_bytes;
-  name_trimmed = h.name_trimmed;
-  species = h.species;
-  grades_number = h.grades_number;
-  grades_range = h.grades_range;
-  grades_rise = h.grades_rise;
-  price_kind = h.price_kind;
-  rows = h.rows;
-  diameters_range = h.diameters_range;
-  diameters_rise = h.diameters_rise;
-  upper_range = h.upper_range;
-  upper_above = h.upper_above;
-  columns = h.columns;
-  lengths_range = h.lengths_range;
-  lengths_rise = h.lengths_rise;
-  prices_number = h.prices_number;
-  prices_range = h.prices_range;
-  targets_number = number;
-  targets_range = low;
-  targets_sum = together;
-  trim_range = h.trim_range;
-}
+valid ts a h number low together = search (rules, h, number, low, together)
 
 all_valid : (xs : List AssortmentParts) (ts : List ℕ) → All IsAssortment xs → AreWantable ts xs
     → All IsAssortment (all_wanting ts xs)

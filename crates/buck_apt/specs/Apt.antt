@@ -1,6 +1,6 @@
--- The instruction of a file's bytes, or the first refusal that applies: ten lines, each looked at only where all
+-- The instruction of a file's bytes, or the first refusal that applies: ten lines, each looked at only if all
 -- before it pass, and within a line the first item in the order of the table, assortment by assortment. The table
--- stands in src/slots: what each item says, the range of its numbers, and how many there may be, where that isn't one.
+-- stands in src/slots: what each item says, the range of its numbers, and how many there may be, if more than one.
 -- The chain of the ten lines, `apt_of`, stands at the end of this page.
 use Rattle.std.specs.Prelude.{ℕ, Bool, not, ◌*◌, ◌%◌, ◌&&◌, ◌==◌, List, [], ◌∷◌, ◌++◌, length, map, sum, slice_index, nat_le, nat_lt, find, position, Option, Some, None, Result, Ok, Err, codes, if◌then◌else◌}
 use Rattle.std.specs.List.{list_all}
@@ -15,9 +15,6 @@ use Rattle.buck_record.specs.checking.Rules.{file_slot, of_slot, has_no_strays, 
 use Rattle.buck_apt.specs.declared.slots.TheConstants.{MODULE, PERIOD, LIMIT, COUNT, NAME, LONGEST_NAME, SPECIES, GRADES, MOST_GRADES, PRICE_KIND, DIAMETERS, MOST_ROWS, UPPER, LENGTHS, MOST_COLUMNS, PRICES, TARGETS, MOST_TARGETS_TOGETHER, TRIM, HEAD, ALONE, MEMBERS, IN_ASSORTMENT}
 use Rattle.buck_apt.specs.Instruction.{AssortmentParts, InstructionParts}
 use Rattle.buck_apt.specs.declared.draft.Draft.{Draft}
-use Rattle.buck_apt.specs.declared.draft.Wood.{Wood}
-use Rattle.buck_apt.specs.declared.draft.Sizes.{Sizes}
-use Rattle.buck_apt.specs.declared.draft.Tables.{Tables}
 use Rattle.buck_apt.specs.declared.draft.FileDraft.{FileDraft}
 use Rattle.buck_apt.specs.declared.fault.AptFault.{AptFault}
 use Rattle.buck_apt.specs.declared.fault.AptFault.TheVariants.{Head, NotApt, Missing, Twice, Digits, Range, Order, Count, Module, Targets}
@@ -53,41 +50,34 @@ single items = do
   _ ← none_of (first_twice ALONE items) Twice
   each group_single (groups items)
 
--- the numbers of an item that may be left out: where it is absent it says so much
+-- the numbers of an item that may be left out: if it is absent it says so much
 unfoldable pub numbers_or : ℕ → Slot → List ItemParts → Result (List ℕ) AptFault
 numbers_or absent s items = if count_in s items == 0 then Ok (absent ∷ []) else numbers_in Digits s items
-
--- what the items of an assortment say of the wood that it takes
-unfoldable pub wood_of : List ItemParts → Result Wood AptFault
-wood_of group = do
-  species ← numbers_in Digits SPECIES group
-  grades ← numbers_in Digits GRADES group
-  price_kind ← numbers_in Digits PRICE_KIND group
-  Ok (record { species = species; grades = grades; price_kind = price_kind })
-
--- what they say of the sizes of its logs
-unfoldable pub sizes_of : List ItemParts → Result Sizes AptFault
-sizes_of group = do
-  diameters ← numbers_in Digits DIAMETERS group
-  upper ← numbers_in Digits UPPER group
-  lengths ← numbers_in Digits LENGTHS group
-  Ok (record { diameters = diameters; upper = upper; lengths = lengths })
-
--- what they say of its classes
-unfoldable pub tables_of : List ItemParts → Result Tables AptFault
-tables_of group = do
-  prices ← numbers_in Digits PRICES group
-  targets ← numbers_in Digits TARGETS group
-  trim ← numbers_or 0 TRIM group
-  Ok (record { prices = prices; targets = targets; trim = trim })
 
 -- what the items of an assortment say
 unfoldable pub draft_of : List ItemParts → Result Draft AptFault
 draft_of group = do
-  wood ← wood_of group
-  sizes ← sizes_of group
-  tables ← tables_of group
-  Ok (record { name = rest_in NAME group; wood = wood; sizes = sizes; tables = tables })
+  species ← numbers_in Digits SPECIES group
+  grades ← numbers_in Digits GRADES group
+  price_kind ← numbers_in Digits PRICE_KIND group
+  diameters ← numbers_in Digits DIAMETERS group
+  upper ← numbers_in Digits UPPER group
+  lengths ← numbers_in Digits LENGTHS group
+  prices ← numbers_in Digits PRICES group
+  targets ← numbers_in Digits TARGETS group
+  trim ← numbers_or 0 TRIM group
+  Ok (record {
+    name = rest_in NAME group;
+    species = species;
+    grades = grades;
+    price_kind = price_kind;
+    diameters = diameters;
+    upper = upper;
+    lengths = lengths;
+    prices = prices;
+    targets = targets;
+    trim = trim;
+  })
 
 -- Line 5, Digits: each item but the texts is a list of numbers.
 unfoldable pub file_draft_of : List ItemParts → Result FileDraft AptFault
@@ -99,7 +89,7 @@ file_draft_of items = do
   drafts ← make_each draft_of (groups items)
   Ok (record { «module» = step; period = period; limit = limit; count = count; drafts = drafts })
 
--- from the blank on, and none of | ~ and DEL
+-- from the space on, and none of | ~ and DEL
 abbrev pub is_name_byte : ℕ → Bool
 is_name_byte b = nat_le 32 b && (not (b == 124) && (not (b == 126) && not (b == 127)))
 
@@ -110,15 +100,15 @@ is_name bs = one_to LONGEST_NAME (length bs) && list_all is_name_byte bs
 unfoldable pub draft_range : Draft → Result (Unit {0}) AptFault
 draft_range d = do
   _ ← check (is_name d.name) (of_slot Range NAME)
-  _ ← all_in_range Range SPECIES d.wood.species
-  _ ← all_in_range Range GRADES d.wood.grades
-  _ ← all_in_range Range PRICE_KIND d.wood.price_kind
-  _ ← all_in_range Range DIAMETERS d.sizes.diameters
-  _ ← all_in_range Range UPPER d.sizes.upper
-  _ ← all_in_range Range LENGTHS d.sizes.lengths
-  _ ← all_in_range Range PRICES d.tables.prices
-  _ ← all_in_range Range TARGETS d.tables.targets
-  all_in_range Range TRIM d.tables.trim
+  _ ← all_in_range Range SPECIES d.species
+  _ ← all_in_range Range GRADES d.grades
+  _ ← all_in_range Range PRICE_KIND d.price_kind
+  _ ← all_in_range Range DIAMETERS d.diameters
+  _ ← all_in_range Range UPPER d.upper
+  _ ← all_in_range Range LENGTHS d.lengths
+  _ ← all_in_range Range PRICES d.prices
+  _ ← all_in_range Range TARGETS d.targets
+  all_in_range Range TRIM d.trim
 
 -- Line 6, Range: each number is in its range, and each name meets its rule.
 unfoldable pub in_range : FileDraft → Result (Unit {0}) AptFault
@@ -135,10 +125,10 @@ all_above lows highs = list_all (λ high. list_all (λ low. nat_lt low high) low
 
 unfoldable pub draft_order : Draft → Result (Unit {0}) AptFault
 draft_order d = do
-  _ ← check (is_rising d.wood.grades) (of_slot Order GRADES)
-  _ ← check (is_rising d.sizes.diameters) (of_slot Order DIAMETERS)
-  _ ← check (all_above d.sizes.diameters d.sizes.upper) (of_slot Order UPPER)
-  check (is_rising d.sizes.lengths) (of_slot Order LENGTHS)
+  _ ← check (is_rising d.grades) (of_slot Order GRADES)
+  _ ← check (is_rising d.diameters) (of_slot Order DIAMETERS)
+  _ ← check (all_above d.diameters d.upper) (of_slot Order UPPER)
+  check (is_rising d.lengths) (of_slot Order LENGTHS)
 
 -- Line 7, Order: each list is in its order.
 unfoldable pub in_order : FileDraft → Result (Unit {0}) AptFault
@@ -146,15 +136,15 @@ in_order file = each draft_order file.drafts
 
 unfoldable pub draft_count : Draft → Result (Unit {0}) AptFault
 draft_count d = do
-  _ ← counted_to Count SPECIES 1 d.wood.species
-  _ ← counted_to Count GRADES MOST_GRADES d.wood.grades
-  _ ← counted_to Count PRICE_KIND 1 d.wood.price_kind
-  _ ← counted_to Count DIAMETERS MOST_ROWS d.sizes.diameters
-  _ ← counted_to Count UPPER 1 d.sizes.upper
-  _ ← counted_to Count LENGTHS MOST_COLUMNS d.sizes.lengths
-  _ ← check (length d.tables.prices == length d.sizes.diameters * length d.sizes.lengths) (of_slot Count PRICES)
-  _ ← check (length d.tables.targets == length d.sizes.diameters * length d.sizes.lengths) (of_slot Count TARGETS)
-  counted_to Count TRIM 1 d.tables.trim
+  _ ← counted_to Count SPECIES 1 d.species
+  _ ← counted_to Count GRADES MOST_GRADES d.grades
+  _ ← counted_to Count PRICE_KIND 1 d.price_kind
+  _ ← counted_to Count DIAMETERS MOST_ROWS d.diameters
+  _ ← counted_to Count UPPER 1 d.upper
+  _ ← counted_to Count LENGTHS MOST_COLUMNS d.lengths
+  _ ← check (length d.prices == length d.diameters * length d.lengths) (of_slot Count PRICES)
+  _ ← check (length d.targets == length d.diameters * length d.lengths) (of_slot Count TARGETS)
+  counted_to Count TRIM 1 d.trim
 
 -- one number, and as many as there are assortments
 abbrev pub is_number_of : List Draft → List ℕ → Bool
@@ -182,25 +172,25 @@ first_off_module step lengths = find (λ l. not (l % step == 0)) lengths
 unfoldable pub on_module : FileDraft → Result (Unit {0}) AptFault
 on_module file =
     let step = slice_index file.«module» 0 in
-    each (λ d. none_found (first_off_module step d.sizes.lengths) Module) file.drafts
+    each (λ d. none_found (first_off_module step d.lengths) Module) file.drafts
 
 -- Line 10, Targets: no assortment's targets are too many together; assortments count from 0.
 unfoldable pub in_targets : FileDraft → Result (Unit {0}) AptFault
-in_targets file = none_found (position (λ d. nat_lt MOST_TARGETS_TOGETHER (sum d.tables.targets)) file.drafts) Targets
+in_targets file = none_found (position (λ d. nat_lt MOST_TARGETS_TOGETHER (sum d.targets)) file.drafts) Targets
 
 -- the assortment that the numbers say
 abbrev pub assortment_of : Draft → AssortmentParts
 assortment_of d = record {
   name = d.name;
-  species = slice_index d.wood.species 0;
-  grades = d.wood.grades;
-  price_kind = slice_index d.wood.price_kind 0;
-  diameters = d.sizes.diameters;
-  upper = slice_index d.sizes.upper 0;
-  lengths = d.sizes.lengths;
-  prices = d.tables.prices;
-  targets = d.tables.targets;
-  trim = slice_index d.tables.trim 0;
+  species = slice_index d.species 0;
+  grades = d.grades;
+  price_kind = slice_index d.price_kind 0;
+  diameters = d.diameters;
+  upper = slice_index d.upper 0;
+  lengths = d.lengths;
+  prices = d.prices;
+  targets = d.targets;
+  trim = slice_index d.trim 0;
 }
 
 -- the instruction that the numbers say

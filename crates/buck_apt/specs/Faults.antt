@@ -1,5 +1,5 @@
--- What is told of an instruction file's fault: its number, then its fields in the order of their definition. Memory that ran
--- out has no number.
+-- How an instruction file's fault is reported: its number, then its fields in the order of their definition. Memory
+-- that ran out has no number.
 use Rattle.std.specs.Prelude.{ℕ, List, [], ◌∷◌}
 use Rattle.buck_apt.specs.declared.fault.AptFault.{AptFault}
 use Rattle.buck_apt.specs.declared.fault.AptFault.TheVariants.{Head, NotApt, Missing, Twice, Digits, Range, Order, Count, Module, Targets, Memory}

@@ -1,6 +1,6 @@
 -- The text of an instruction in its normal form: each item of the table once, in the order of the table, on lines of
--- its own. A white byte stands before each number, and no number has a leading zero. Prices and targets have a line for
--- each row after the head. A trim of 0 is left out.
+-- its own. A whitespace byte stands before each number, and no number has a leading zero. Prices and targets have a
+-- line for each row after the head. A trim of 0 is left out.
 use Rattle.std.specs.Prelude.{ℕ, ◌==◌, List, [], ◌∷◌, ◌++◌, length, codes, if◌then◌else◌}
 use Rattle.std.specs.List.{flat_map}
 use Rattle.buck_record.specs.writing.Written.{spaced, blank, row_start}

@@ -31,5 +31,5 @@ pub static ITEMS: [Described; 15] = [
     described!([LENGTHS], "lengths", Member, UpTo(MOST_COLUMNS), Rising(1)),
     described!([PRICES], "base prices", Member, Classes),
     described!([TARGETS], "targets", Member, Classes),
-    described!([TRIM], "trim", Member, One),
+    described!([TRIM], "trim allowance", Member, One),
 ];

@@ -9,8 +9,8 @@ use std::alloc::{AllocError, AllocFailed};
 use std::error::Error;
 use std::fmt;
 
-/// What is wrong with an instruction file: the first refusal that applies, in this order, and within it the first item
-/// in the order of the file's table. `number` and `kind` are those of the item's head, 0 to 65,535.
+/// Why an instruction file is refused: the first refusal that applies, in this order, and within it the first item in
+/// the order of the file's table. `number` and `kind` are those of the item's head, 0 to 65,535.
 #[derive(Clone, Copy, Debug, PartialEq, Eq)]
 pub enum AptFault {
     /// The first item without a head of two numbers below 65,536: `item` counts from 1 in file order.
@@ -60,7 +60,7 @@ pub enum AptFault {
     Targets {
         assortment: usize,
     },
-    /// A growth was refused. It may come in place of any answer.
+    /// An allocation failed. It may come in place of any answer.
     Memory,
 }
 

@@ -1,6 +1,5 @@
 //! The lines of the order of refusals.
 ghost use Rattle.std.specs.Prelude.{◌≡◌, ◌<◌, ◌≤◌, ◌*◌, ◌==◌, length, slice_index, sum, position, nat_lt};
-ghost use Rattle.buck_record.specs.checking.Check.{each};
 ghost use Rattle.buck_apt.specs.declared.fault.AptFault.TheVariants.{Module};
 ghost use Rattle.buck_apt.specs.Apt.{
   groups,
@@ -50,12 +49,6 @@ fn group_present<'a>(group: &'a [Piece<'a>]) -> Result<(), AptFault>
     all_there(&MEMBERS, group)
 }
 
-fn each_present(groups: &[Group<'_>]) -> Result<(), AptFault>
-    ensures { result ≡ each group_present groups.now }
-{
-    each(groups, |group| group_present(group.items()))
-}
-
 /// Each item that must be there is.
 #[tactic(auto, unfolding(crate::specs::Apt::present))]
 pub(crate) fn present<'a>(items: &'a [Piece<'a>], assortments: &[Group<'_>]) -> Result<(), AptFault>
@@ -64,7 +57,7 @@ pub(crate) fn present<'a>(items: &'a [Piece<'a>], assortments: &[Group<'_>]) -> 
 {
     all_there::<AptFault>(&HEAD, items)?;
     check(begins_with_name(items), AptFault::missing(NAME))?;
-    each_present(assortments)
+    each(assortments, |group| group_present(group.items()))
 }
 
 #[tactic(auto, unfolding(crate::specs::Apt::group_single))]
@@ -74,12 +67,6 @@ fn group_single<'a>(group: &'a [Piece<'a>]) -> Result<(), AptFault>
     all_single(&IN_ASSORTMENT, group)
 }
 
-fn each_single(groups: &[Group<'_>]) -> Result<(), AptFault>
-    ensures { result ≡ each group_single groups.now }
-{
-    each(groups, |group| group_single(group.items()))
-}
-
 /// No item stands twice in the file or in its assortment.
 #[tactic(auto, unfolding(crate::specs::Apt::single))]
 pub(crate) fn single<'a>(items: &'a [Piece<'a>], assortments: &[Group<'_>]) -> Result<(), AptFault>
@@ -87,7 +74,7 @@ pub(crate) fn single<'a>(items: &'a [Piece<'a>], assortments: &[Group<'_>]) -> R
     ensures { result ≡ single items.now }
 {
     all_single::<AptFault>(&ALONE, items)?;
-    each_single(assortments)
+    each(assortments, |group| group_single(group.items()))
 }
 
 #[tactic(auto, unfolding(crate::specs::Apt::draft_range))]
@@ -95,21 +82,15 @@ fn draft_range(draft: &Draft) -> Result<(), AptFault>
     ensures { result ≡ draft_range draft.now }
 {
     check(is_name(draft.name.as_slice()), AptFault::range(NAME))?;
-    all_in_range::<AptFault>(SPECIES, draft.wood.species.as_slice())?;
-    all_in_range::<AptFault>(GRADES, draft.wood.grades.as_slice())?;
-    all_in_range::<AptFault>(PRICE_KIND, draft.wood.price_kind.as_slice())?;
-    all_in_range::<AptFault>(DIAMETERS, draft.sizes.diameters.as_slice())?;
-    all_in_range::<AptFault>(UPPER, draft.sizes.upper.as_slice())?;
-    all_in_range::<AptFault>(LENGTHS, draft.sizes.lengths.as_slice())?;
-    all_in_range::<AptFault>(PRICES, draft.tables.prices.as_slice())?;
-    all_in_range::<AptFault>(TARGETS, draft.tables.targets.as_slice())?;
-    all_in_range(TRIM, draft.tables.trim.as_slice())
-}
-
-fn each_range(drafts: &[Draft]) -> Result<(), AptFault>
-    ensures { result ≡ each draft_range drafts.now }
-{
-    each(drafts, |draft| draft_range(draft))
+    all_in_range::<AptFault>(SPECIES, draft.species.as_slice())?;
+    all_in_range::<AptFault>(GRADES, draft.grades.as_slice())?;
+    all_in_range::<AptFault>(PRICE_KIND, draft.price_kind.as_slice())?;
+    all_in_range::<AptFault>(DIAMETERS, draft.diameters.as_slice())?;
+    all_in_range::<AptFault>(UPPER, draft.upper.as_slice())?;
+    all_in_range::<AptFault>(LENGTHS, draft.lengths.as_slice())?;
+    all_in_range::<AptFault>(PRICES, draft.prices.as_slice())?;
+    all_in_range::<AptFault>(TARGETS, draft.targets.as_slice())?;
+    all_in_range(TRIM, draft.trim.as_slice())
 }
 
 /// Each number is in its range, and each name meets its rule.
@@ -121,25 +102,22 @@ pub(crate) fn in_range(file: &FileDraft) -> Result<(), AptFault>
     all_in_range::<AptFault>(PERIOD, file.period.as_slice())?;
     all_in_range::<AptFault>(LIMIT, file.limit.as_slice())?;
     all_in_range::<AptFault>(COUNT, file.count.as_slice())?;
-    each_range(file.drafts.as_slice())
+    each(file.drafts.as_slice(), |draft| draft_range(draft))
 }
 
 #[tactic(auto, unfolding(crate::specs::Apt::draft_order))]
 fn draft_order(draft: &Draft) -> Result<(), AptFault>
     ensures { result ≡ draft_order draft.now }
 {
-    let diameters = draft.sizes.diameters.as_slice();
-    check(
-        is_rising(draft.wood.grades.as_slice()),
-        AptFault::order(GRADES),
-    )?;
+    let diameters = draft.diameters.as_slice();
+    check(is_rising(draft.grades.as_slice()), AptFault::order(GRADES))?;
     check(is_rising(diameters), AptFault::order(DIAMETERS))?;
     check(
-        all_above(diameters, draft.sizes.upper.as_slice()),
+        all_above(diameters, draft.upper.as_slice()),
         AptFault::order(UPPER),
     )?;
     check(
-        is_rising(draft.sizes.lengths.as_slice()),
+        is_rising(draft.lengths.as_slice()),
         AptFault::order(LENGTHS),
     )
 }
@@ -165,15 +143,15 @@ fn is_full(numbers: &[u32], rows: usize, columns: usize) -> bool
 fn draft_count(draft: &Draft) -> Result<(), AptFault>
     ensures { result ≡ draft_count draft.now }
 {
-    let diameters = draft.sizes.diameters.as_slice();
-    let lengths = draft.sizes.lengths.as_slice();
-    let prices = draft.tables.prices.as_slice();
-    let targets = draft.tables.targets.as_slice();
-    counted_to::<AptFault>(SPECIES, 1, draft.wood.species.as_slice())?;
-    counted_to::<AptFault>(GRADES, MOST_GRADES, draft.wood.grades.as_slice())?;
-    counted_to::<AptFault>(PRICE_KIND, 1, draft.wood.price_kind.as_slice())?;
+    let diameters = draft.diameters.as_slice();
+    let lengths = draft.lengths.as_slice();
+    let prices = draft.prices.as_slice();
+    let targets = draft.targets.as_slice();
+    counted_to::<AptFault>(SPECIES, 1, draft.species.as_slice())?;
+    counted_to::<AptFault>(GRADES, MOST_GRADES, draft.grades.as_slice())?;
+    counted_to::<AptFault>(PRICE_KIND, 1, draft.price_kind.as_slice())?;
     counted_to::<AptFault>(DIAMETERS, MOST_ROWS, diameters)?;
-    counted_to::<AptFault>(UPPER, 1, draft.sizes.upper.as_slice())?;
+    counted_to::<AptFault>(UPPER, 1, draft.upper.as_slice())?;
     counted_to::<AptFault>(LENGTHS, MOST_COLUMNS, lengths)?;
     check(
         is_full(prices, diameters.len(), lengths.len()),
@@ -183,13 +161,7 @@ fn draft_count(draft: &Draft) -> Result<(), AptFault>
         is_full(targets, diameters.len(), lengths.len()),
         AptFault::count(TARGETS),
     )?;
-    counted_to(TRIM, 1, draft.tables.trim.as_slice())
-}
-
-fn each_count(drafts: &[Draft]) -> Result<(), AptFault>
-    ensures { result ≡ each draft_count drafts.now }
-{
-    each(drafts, |draft| draft_count(draft))
+    counted_to(TRIM, 1, draft.trim.as_slice())
 }
 
 /// There is one number, and it is that of the drafts.
@@ -212,14 +184,14 @@ pub(crate) fn in_number(file: &FileDraft) -> Result<(), AptFault>
         is_number_of(drafts, file.count.as_slice()),
         AptFault::count(COUNT),
     )?;
-    each_count(drafts)
+    each(drafts, |draft| draft_count(draft))
 }
 
 fn draft_on_module(module: u32, draft: &Draft) -> Result<(), AptFault>
     requires { 0 < «module» }
-    ensures { result ≡ none_found (first_off_module «module» draft.now.sizes.lengths) (λ l. Module l) }
+    ensures { result ≡ none_found (first_off_module «module» draft.now.lengths) (λ l. Module l) }
 {
-    match first_off_module(module, draft.sizes.lengths.as_slice()) {
+    match first_off_module(module, draft.lengths.as_slice()) {
         None => Ok(()),
         Some(length) => Err(AptFault::Module { length }),
     }
@@ -239,9 +211,9 @@ pub(crate) fn on_module(file: &FileDraft) -> Result<(), AptFault>
 
 /// The first of the drafts whose targets are too many together.
 fn first_with_too_many_targets(drafts: &[Draft]) -> Option<usize>
-    ensures { result ≡ position (λ d. nat_lt MOST_TARGETS_TOGETHER (sum d.tables.targets)) drafts.now }
+    ensures { result ≡ position (λ d. nat_lt MOST_TARGETS_TOGETHER (sum d.targets)) drafts.now }
 {
-    drafts.iter().position(|draft| is_above(MOST_TARGETS_TOGETHER, draft.tables.targets.as_slice()))
+    drafts.iter().position(|draft| is_above(MOST_TARGETS_TOGETHER, draft.targets.as_slice()))
 }
 
 /// No assortment's targets are too many together.

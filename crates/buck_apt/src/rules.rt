@@ -20,7 +20,7 @@ pub(crate) fn all_above(lows: &[u32], highs: &[u32]) -> bool
     highs.iter().all(|high| all_below(lows, *high))
 }
 
-/// From the blank on, and none of `|`, `~` and DEL.
+/// From the space on, and none of `|`, `~` and DEL.
 fn is_name_byte(b: u8) -> bool
     ensures { result ≡ is_name_byte b }
 {

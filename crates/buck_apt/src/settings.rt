@@ -6,7 +6,7 @@ use crate::slots::{LIMIT, PERIOD};
 use std::marker::Model;
 
 /// Numbers that a run puts in the place of an instruction's own: the period, 1 to 1,000 stems, and the limit, at most
-/// 1,000 per mille. Where one isn't told, the instruction's own stays.
+/// 1,000 per mille. If one isn't given, the instruction's own stays.
 #[derive(Debug, Drop)]
 pub struct Settings {
     period: Option<u32>,
@@ -62,7 +62,7 @@ impl Settings {
         Some(Settings { period, limit })
     }
 
-    /// The period, where one is told.
+    /// The period, if one is given.
     pub(crate) fn period(&self) -> Option<u32>
         ensures period { result ≡ self.now.period }
         ensures valid { IsSettings self.now }
@@ -70,7 +70,7 @@ impl Settings {
         self.period
     }
 
-    /// The limit, where one is told.
+    /// The limit, if one is given.
     pub(crate) fn limit(&self) -> Option<u32>
         ensures limit { result ≡ self.now.limit }
         ensures valid { IsSettings self.now }

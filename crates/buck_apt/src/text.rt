@@ -18,7 +18,7 @@ fn put(out: &mut Vec<u8>, text: &[u8]) -> Result<(), Memory>
     Ok(())
 }
 
-/// Puts a number after a line feed, where a row begins, and else after a blank.
+/// Puts a number after a line feed if a row begins, and else after a space.
 fn put_in_row(out: &mut Vec<u8>, begins: bool, number: u32) -> Result<(), Memory>
     ensures { OnOk result (out.new.items ≡ out.old.items ++ ((if begins then 10 else 32) ∷ decimal number)) }
 {
@@ -26,7 +26,7 @@ fn put_in_row(out: &mut Vec<u8>, begins: bool, number: u32) -> Result<(), Memory
     put_after(out, before, u128::from(number))
 }
 
-/// Puts numbers, each after a blank.
+/// Puts numbers, each after a space.
 fn put_numbers(out: &mut Vec<u8>, numbers: &[u32]) -> Result<(), Memory>
     ensures { OnOk result (out.new.items ≡ out.old.items ++ spaced blank 0 numbers.now) }
 {
@@ -36,7 +36,7 @@ fn put_numbers(out: &mut Vec<u8>, numbers: &[u32]) -> Result<(), Memory>
     Ok(())
 }
 
-/// Puts grades, each after a blank.
+/// Puts grades, each after a space.
 fn put_grades(out: &mut Vec<u8>, grades: &[u8]) -> Result<(), Memory>
     ensures { OnOk result (out.new.items ≡ out.old.items ++ spaced blank 0 grades.now) }
 {
@@ -83,7 +83,7 @@ fn put_table(out: &mut Vec<u8>, head: &[u8], columns: usize, numbers: &[u32]) ->
     put(out, b"~\n")
 }
 
-/// Puts the trim allowance, where there is one.
+/// Puts the trim allowance, if there is one.
 fn put_trim(out: &mut Vec<u8>, trim: u32) -> Result<(), Memory>
     ensures { OnOk result (out.new.items ≡ out.old.items ++ trim_text trim) }
 {

@@ -13,7 +13,7 @@ one : {front : ℕ} (seen : ℕ) → seen ≤ front → All (λ v. v ≤ front) 
 one seen below zero d within = below
 one seen below (suc k) d within = absurd (omega arith)
 
--- where a view is found, it is one of the views
+-- if a view is found, it is one of the views
 elem_at : (views : List ℕ) (seat seen : ℕ) → get_elem? views seat ≡ some seen → (seat < length views)
     × (slice_index_or views seat seen ≡ seen)
 elem_at [] seat seen is = absurd (some-ne-none seen (sym is))
@@ -43,7 +43,7 @@ has_seen views seat seen next is =
     let at = elem_at views seat seen is in
     (seat, rw length-set at.0, get_or-set_same views seat next next at.0)
 
--- where a seat becomes two, the front is still seen
+-- after a seat becomes two, the front is still seen
 still_seen : (views : List ℕ) (seat seen front : ℕ) → get_elem? views seat ≡ some seen → Contains views front
     → Contains (slice_set views seat seen ++ seen ∷ []) front
 still_seen views seat seen front is there =

@@ -28,7 +28,7 @@ impl Board {
     ghost use Rattle.buck_board.specs.Board.{base_of, seen_by, IsSeatOf, IsSnapshotOf, version_of, sheet_of, IsPutUpOn, sheet_put_up};
 
     /// A board with 1 to 64 seats that shows a sheet of version 0, the base sheet; each seat has seen version 0.
-    /// `Memory` where there is none for the list, the front or the seats.
+    /// `Memory` if there is none for the list, the front or the seats.
     pub fn open<R: Wait>(
         _rt: &R,
         alloc: Global,
@@ -49,7 +49,7 @@ impl Board {
     }
 
     /// Puts a sheet up behind the others. No seat is shown it before the front is raised to its version, which is its
-    /// place among all sheets. `Memory` where there is none for the list, and then the sheet is dropped and all else
+    /// place among all sheets. `Memory` if there is none for the list, and then the sheet is dropped and all else
     /// stays.
     pub fn put_up<R: Wait>(&self, rt: &R, _alloc: Global, sheet: Arc<Sheet>) -> Result<(), Memory> {
         match self.put_up_shown(rt, sheet) {
@@ -69,7 +69,7 @@ impl Board {
         }
     }
 
-    /// Raises the front to this version, where it is less. The seat has then seen the greater of the two, so no less
+    /// Raises the front to this version, if it is less. The seat has then seen the greater of the two, so no less
     /// than the version and than it had seen.
     pub fn raise(&self, seat: &mut BoardSeat, version: u32)
         requires { IsSeatOf self.now seat.old }
@@ -80,7 +80,7 @@ impl Board {
         self.front.raise(&mut *seat, version);
     }
 
-    /// Reads the front, and shows the sheet of that version. None where no sheet of it was put up at its place; version
+    /// Reads the front, and shows the sheet of that version. None if no sheet of it was put up at its place; version
     /// 0 is always shown.
     pub fn read<'a>(&'a self, seat: &mut BoardSeat) -> Option<Snapshot<'a>>
         requires { IsSeatOf self.now seat.old }
@@ -111,7 +111,7 @@ impl Board {
         }
     }
 
-    /// The sheet at the place of a version past 0, where there is one and it has that version.
+    /// The sheet at the place of a version past 0, if there is one and it has that version.
     fn later_shown<'a>(&'a self, version: u32) -> Option<Snapshot<'a>>
         requires { 0 < version }
         ensures version { IfSome result (λ s. version_of s ≡ version) }
@@ -121,6 +121,8 @@ impl Board {
             return None;
         };
         let sheet = self.later.value(&pushed);
+        // If a `put_up` was refused, later sheets stand at lower places, and would be shown as versions that they
+        // aren't.
         if sheet.version() != version {
             return None;
         }
@@ -154,7 +156,7 @@ impl Board {
         }
     }
 
-    /// What shows the sheet of a snapshot of this board, where it isn't the base sheet.
+    /// What shows the sheet of a snapshot of this board, if it isn't the base sheet.
     fn shown_by<'b>(&self, snapshot: &'b Snapshot) -> Option<&'b Pushed<Arc<Sheet>>>
         requires { IsSnapshotOf self.now snapshot.now }
         ensures base { IfNone result ((version_of snapshot.now ≡ 0) × (sheet_of snapshot.now ≡ base_of self.now)) }

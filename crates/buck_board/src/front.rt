@@ -16,7 +16,7 @@ pub struct Front {
 impl Front {
     ghost use Rattle.buck_board.specs.Board.{IsSeatAt};
 
-    /// The word 0, with a first seat that has seen 0. Refused only where a growth was.
+    /// The word 0, with a first seat that has seen 0. Refused only if an allocation failed.
     pub fn open(alloc: Global) -> Result<(Front, BoardSeat), AllocError>
         ensures place { IfOk result (λ f. IsSeatAt f.0 f.1) }
         ensures seen { IfOk result (λ f. f.1.seen ≡ 0) }
@@ -55,7 +55,7 @@ impl Front {
         version
     }
 
-    /// Raises the word to this version, where it is less; the seat has seen the greater of the two from then on.
+    /// Raises the word to this version, if it is less; the seat has seen the greater of the two from then on.
     pub fn raise(&self, seat: &mut BoardSeat, version: u32)
         requires { IsSeatAt self.now seat.old }
         ensures place { IsSeatAt self.now seat.new }
@@ -68,7 +68,7 @@ impl Front {
         seat.seen = found.max(u64::from(version)) as u32;
     }
 
-    /// As many seats as asked for, the first of them and further ones. Refused only where a growth was.
+    /// As many seats as asked for, the first of them and further ones. Refused only if an allocation failed.
     pub fn seats(
         &self,
         alloc: Global,

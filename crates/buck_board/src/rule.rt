@@ -12,21 +12,21 @@ impl TableRule<(), u64, ()> for Seen {
     ghost first = { λ _. 0 };
 }
 
-/// What a load tells the seat.
+/// The step by which a seat reads the front.
 pub struct Read;
 
 impl Play<(), u64> for Read {
     ghost then = { Reads };
 }
 
-/// What a raise tells the seat.
+/// The step by which a seat raises the front.
 pub struct Raise;
 
 impl Play<(), u64> for Raise {
     ghost then = { Raises };
 }
 
-/// Where a seat becomes two, both have seen as much as the one had.
+/// After a seat becomes two, both have seen as much as the one had.
 pub struct Alike;
 
 impl Split<u64> for Alike {

@@ -12,7 +12,7 @@ spread : (p n : ℕ) (es : List EntryParts) → ends_from p n (map Cut es) * p +
 spread p n [] = omega arith
 spread p n (e ∷ es) = search (rules, cases_Bool, eqb-true, ends_yes, cuts_yes, ends_no, cuts_no, (spread p 0 es), (spread p (n + 1) es))
 
--- where no demand stands, the ends are the full periods
+-- if no demand stands, the ends are the full periods
 module _ (i : InstructionParts) (es : List EntryParts) (pos : 0 < i.period) where
   pub ends_alone : ends_of i (map Cut es) ≡ length es / i.period
   ends_alone = grind (arith, div-mul-add, (cuts_low i.period 0 (map Cut es) pos pos), (spread i.period 0 es))
@@ -58,11 +58,11 @@ pub meets_from_alone : (i : InstructionParts) (es : List EntryParts) (prices : L
     → alone.PricesMeet i es prices → PricesMeet i (map Cut es) prices
 meets_from_alone i es prices v m = grind (arith, same_standing)
 
--- base prices keep the relation where nothing was cut
+-- base prices keep the relation if nothing was cut
 pub base_meets : (i : InstructionParts) → IsInstruction i → alone.PricesMeet i [] (base_prices i)
 base_meets i v = grind (arith, length-base_prices, base_is)
 
--- prices in the relation where nothing was cut are the base prices
+-- prices in the relation if nothing was cut are the base prices
 pub base_alone : (i : InstructionParts) (prices : List ℕ) → IsInstruction i → alone.PricesMeet i [] prices
     → prices ≡ base_prices i
 base_alone i prices v m =

@@ -1,5 +1,5 @@
 -- Running counts of entries, one entry on.
-use Rattle.buck_book.proofs.Words.{◌≡◌, ℕ, ◌+◌, ◌-◌, ◌<◌, ◌≤◌, ◌==◌, cond, List, [], ◌∷◌, ◌++◌, length, get_or, set, take, replicate, ◌^◌, sym, ◌∙◌, ap, inl, inr, arith, eq-eqb, rules, common_steps, ne_eqb, cases_eq, get_or-set_same, get_or-set_other, length-set, get_or_past, get_or-replicate, length-replicate, sum_by-le-sum_by, sum_by_push, count_by-le-length, Class, InstructionParts, classes, Log, Posting, Cut, Demand, harvester_of, class_logs_in, assortment_logs_in, count_of, assortment_count_of, calls_of, AreCounts, AreAtMost, AreCalls, AreGrownBy, AreGrownAt}
+use Rattle.buck_book.proofs.Words.{map, count_by, refl, sum_by-cons, length-map, StemParts, ArePlaces, class_place, ◌≡◌, ℕ, ◌+◌, ◌-◌, ◌<◌, ◌≤◌, ◌==◌, cond, List, [], ◌∷◌, ◌++◌, length, get_or, set, take, replicate, ◌^◌, sym, ◌∙◌, ap, inl, inr, arith, eq-eqb, rules, common_steps, ne_eqb, cases_eq, get_or-set_same, get_or-set_other, length-set, get_or_past, get_or-replicate, length-replicate, sum_by-le-sum_by, sum_by_push, count_by-le-length, Class, InstructionParts, classes, Log, Posting, Cut, Demand, harvester_of, class_logs_in, assortment_logs_in, count_of, assortment_count_of, calls_of, AreCounts, AreAtMost, AreCalls, AreGrownBy, AreGrownAt}
 use Rattle.buck_book.proofs.Cuts.{class_logs-le}
 
 zeros : (n k : ℕ) → get_or (replicate {A = ℕ} n 0) k 0 ≡ 0
@@ -46,6 +46,27 @@ pub grown_more : {X : Type 0} (place : X → ℕ) (before after : List ℕ) (xs 
     → i < length xs → p ≡ place (get_or xs i d) → p < length after → AreGrownAt place before (take i xs) after
     → AreGrownAt place before (take (i + 1) xs) (set after p (get_or after p 0 + 1))
 grown_more place before after xs i p d lt is within grown = grind (arith, common_steps)
+
+-- things are counted by their places
+mapped : {X : Type 0} (place : X → ℕ) (k : ℕ) (xs : List X)
+    → count_by (λ p. p == k) (map place xs) ≡ count_by (λ x. place x == k) xs
+mapped place k [] = refl
+mapped place k (x ∷ xs) =
+    sum_by-cons (λ (p : ℕ). cond (p == k) 1 0) (place x) (map place xs)
+    ∙ ap (λ n. cond (place x == k) 1 0 + n) (mapped place k xs)
+    ∙ sym (sum_by-cons (λ y. cond (place y == k) 1 0) x xs)
+
+pub grown_placed : {X : Type 0} (place : X → ℕ) (before : List ℕ) (xs : List X) (places after : List ℕ)
+    → places ≡ map place xs → AreGrownAt (λ p. p) before places after → AreGrownAt place before xs after
+grown_placed place before xs places after is grown = record {
+  number = grown.number;
+  each = λ k. grown.each k ∙ ap (λ (ps : List ℕ). get_or before k 0 + count_by (λ p. p == k) ps) is
+      ∙ ap (λ n. get_or before k 0 + n) (mapped place k xs);
+}
+
+pub length_places : (i : InstructionParts) (stem : StemParts) (logs : List Log) (places : List ℕ)
+    → ArePlaces i stem logs places → length places ≡ length logs
+length_places i stem logs places p = ap length p.are ∙ length-map logs (class_place i stem)
 
 -- one log more
 pub grown_by_more : (before after : List ℕ) (logs : List Log) (i n : ℕ) (g : Log) → i < length logs

@@ -1,11 +1,17 @@
 -- The logs of an admissible cutting: each is allowed, and there are at most 80.
-use Rattle.buck_book.proofs.Words.{◌≡◌, ℕ, ◌+◌, ◌*◌, ◌≤◌, ◌==◌, true, cond, List, [], ◌∷◌, All, length, count_by, refl, sym, ◌∙◌, inl, inr, arith, eqb-true, eq-eqb, rules, and_parts, and_from, ne_eqb, cases_eq, false_from_ne_true, All-nil, All-cons, sum_by-cons, sum_by-le-sum_by, Class, InstructionParts, IsInstruction, IsClass, index_of, StemParts, IsStem, stem_length, Log, IsAllowed, class_of, end_of, class_is_class, allowed_low, IsCutFrom, end_within, is_class, class_logs, assortment_logs, class_place}
+use Rattle.buck_book.proofs.Words.{◌<◌, get_or, slice_get_within, ◌≡◌, ℕ, ◌+◌, ◌*◌, ◌≤◌, ◌==◌, true, cond, List, [], ◌∷◌, All, length, count_by, refl, sym, ◌∙◌, arith, eqb-true, eq-eqb, rules, and_parts, and_from, ne_eqb, cases_eq, false_from_ne_true, All-nil, All-cons, sum_by-cons, sum_by-le-sum_by, Class, InstructionParts, IsInstruction, IsClass, index_of, StemParts, IsStem, stem_length, Log, IsAllowed, class_of, end_of, class_is_class, allowed_low, IsCutFrom, end_within, is_class, class_logs, assortment_logs, class_place}
 use Rattle.buck_book.proofs.Places.{one_place, class_of_assortment}
 
 pub each_allowed : (i : InstructionParts) (stem : StemParts) (from : ℕ) (gs : List Log)
     → IsCutFrom (IsAllowed i stem) (end_of i) from gs → All (IsAllowed i stem) gs
 each_allowed i stem from [] c = All-nil (IsAllowed i stem)
 each_allowed i stem from (g ∷ gs) c = All-cons (IsAllowed i stem) g gs c.1 (each_allowed i stem (end_of i g) gs c.2)
+
+-- each log's assortment is there
+pub each_within : (i : InstructionParts) (stem : StemParts) (gs : List Log) (n : ℕ) → All (IsAllowed i stem) gs
+    → n ≡ length i.assortments → All (λ g. g.assortment < n) gs
+each_within i stem gs n allowed is k d lt =
+    rw is (slice_get_within i.assortments (get_or gs k d).assortment _ (allowed k d lt).exists)
 
 long_enough : (i : InstructionParts) (stem : StemParts) (from : ℕ) (gs : List Log) → IsInstruction i
     → from ≤ stem_length stem.samples → IsCutFrom (IsAllowed i stem) (end_of i) from gs

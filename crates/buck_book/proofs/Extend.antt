@@ -19,7 +19,7 @@ slice_get-take xs n i x le e =
     let is : get_or xs i x ≡ x = sym (get_or-take n xs i x lt) ∙ get_or_from_slice_get (take n xs) i x x e in
     grind (arith, slice_get-get_or)
 
--- a posting follows where the prices of its version are the same
+-- a posting follows if the prices of its version are the same
 pub follows_same : (i : InstructionParts) (these those : List (List ℕ)) (before : List Posting) (x : Posting)
     → prices_at those (planned_version x) ≡ prices_at these (planned_version x)
     → Follows i these before x → Follows i those before x
@@ -67,7 +67,7 @@ pub prices_stay : (sheets : List (List ℕ)) (next : Option SheetParts) (v : ℕ
 prices_stay sheets None v lt = refl
 prices_stay sheets (Some s) v lt = get_or_append_left sheets (s.prices ∷ []) [] v lt
 
--- the next sheet, where there is one, is there as it should be
+-- the next sheet, if there is one, is there as it should be
 next_meets : (h : HistoryParts) (x : Posting) (next : Option SheetParts) → IsLawful h → IsNext h x next
     → IsEnd h.instruction h.postings x
     → PricesMeet h.instruction (h.postings ++ x ∷ [])

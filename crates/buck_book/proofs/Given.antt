@@ -1,5 +1,5 @@
 -- Sheets whose prices are a closure's answers, and one posting more.
-use Rattle.std.proofs.Common.{◌≡◌, ℕ, ◌+◌, ◌<◌, inl, inr, List, [], ◌∷◌, ◌++◌, length, take, Option, Some, None, refl, sym, ap, subst, ◌∙◌, arith}
+use Rattle.std.proofs.Common.{◌≡◌, ℕ, ◌+◌, ◌<◌, inl, inr, [], ◌∷◌, ◌++◌, length, take, Option, Some, None, refl, sym, ap, subst, ◌∙◌, arith}
 use Rattle.std.specs.Prelude.{IfSome}
 use Rattle.std.proofs.lemmas.List.{take_all, take-append-le, length_push, get_or_push}
 use Rattle.buck_book.specs.declared.posting.Posting.{Posting}
@@ -17,7 +17,7 @@ use Rattle.buck_book.proofs.Extend.{slice_get-push, prices_stay}
 pub none_given : {F : Type 0} (g : Calls F) (f : F) (h : HistoryParts) → h.postings ≡ [] → AreSheetsBy g f h
 none_given g f h none = record { answers = λ k x at. absurd (cc (none, at)) }
 
--- the prices of the next sheet, where the posting is an end
+-- the prices of the next sheet, if the posting is an end
 next_given : {F : Type 0} (g : Calls F) (f : F) (h : HistoryParts) (x : Posting) (next : _) → IsLawful h
     → IsNext h x next
     → IfSome next (λ s. AreAnswers g f h.instruction (h.postings ++ x ∷ []) s.prices) → IsEnd h.instruction h.postings x

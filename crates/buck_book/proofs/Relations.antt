@@ -1,5 +1,5 @@
 -- How classes stand after some postings, and prices in the relation, class by class.
-use Rattle.buck_book.proofs.Words.{◌≡◌, ℕ, ◌<◌, List, Option, Some, None, length, ◌∙◌, arith, rules, IfNone, Class, IsClass, classes, Standing, Meets, Posting, targets_of, standing_of, PricesMeet, AreAnswers, Calls, StandsAfter, IsWrongPrice, AreCounts, StandingsParts, StandsAt, standing_by, ArePriced, AreBelow, IsFirstWrong}
+use Rattle.buck_book.proofs.Words.{◌≡◌, ℕ, List, Option, Some, None, length, ◌∙◌, arith, rules, IfNone, Class, IsClass, classes, Standing, Meets, Posting, targets_of, standing_of, PricesMeet, AreAnswers, Calls, StandsAfter, IsWrongPrice, AreCounts, StandingsParts, StandsAt, standing_by, ArePriced, AreBelow, IsFirstWrong}
 use Rattle.buck_book.proofs.Places.{place_lt, ClassAt, class_at}
 use Rattle.buck_book.proofs.Standings.{standing_is}
 

@@ -1,5 +1,5 @@
 -- How classes stand, and the prices that are answered to that.
-use Rattle.buck_book.proofs.Words.{◌≡◌, ℕ, ◌+◌, ◌*◌, ◌<◌, ◌≤◌, inl, inr, List, [], ◌∷◌, ◌++◌, length, slice_index, slice_get, Some, sym, ◌∙◌, arith, mul-le-mul_left, common_steps, cases_lt, get_or_push, get_or_append_left, length_push, sum_by_more, slice_get_within, get_or_from_slice_get, Bor, Shared, Class, InstructionParts, AssortmentParts, IsInstruction, IsClass, classes, classes_of, classes_before, index_of, Standing, IsInRange, Meets, SheetParts, sheet_of, base_prices, IsPriceAt, IsInSpan, IsSheetFault, SheetFault, Count, Price, base_price-le, Posting, targets_of, targets_sum, standing_at, standing_of, AreCounts, Running, Tells, IsSheetAfter, standings_of, Section, StandingsParts, CanPrice, IsSection, IsClassOf, StandsAt, IsAnswer, ArePriced, AreBelow, standing_by}
+use Rattle.buck_book.proofs.Words.{◌≡◌, ℕ, ◌+◌, ◌*◌, ◌<◌, ◌≤◌, inl, inr, List, [], ◌∷◌, ◌++◌, length, slice_index, slice_get, Some, sym, arith, mul-le-mul_left, common_steps, cases_lt, get_or_push, get_or_append_left, length_push, sum_by_more, slice_get_within, get_or_from_slice_get, Bor, Shared, Class, InstructionParts, AssortmentParts, IsInstruction, IsClass, classes, classes_of, classes_before, index_of, Standing, IsInRange, Meets, SheetParts, sheet_of, base_prices, IsPriceAt, IsInSpan, IsSheetFault, SheetFault, Count, Price, base_price-le, Posting, targets_of, targets_sum, standing_at, standing_of, AreCounts, Running, Tells, IsSheetAfter, standings_of, Section, StandingsParts, CanPrice, IsSection, IsClassOf, StandsAt, IsAnswer, ArePriced, AreBelow, standing_by}
 use Rattle.std.specs.Fn.{FnReturnsAt}
 use Rattle.buck_book.proofs.Places.{number_at, inner_is, inner_lt, place_lt, in_assortment, ClassAt, class_at}
 use Rattle.buck_book.proofs.Wanted.{valid_at, part_within, target_within, target_low}

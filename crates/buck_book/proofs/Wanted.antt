@@ -1,5 +1,5 @@
 -- The instruction's targets are valid, and what is wanted of an assortment is read from its part of all targets.
-use Rattle.buck_book.proofs.Words.{◌≡◌, ℕ, zero, suc, ◌+◌, ◌<◌, ◌≤◌, List, [], ◌∷◌, All, length, take, drop, get_or, slice_index, slice_get, Some, sum, sum_by, refl, ◌∙◌, ap, arith, rules, flat_map, AllByRecursion, below_more, drop-append-add, get_or-take, get_or-drop, length-take-le, length-drop, take-append-le, take_all, get_or_past, length-flat_map, All-append, All-get_or, recursion_from_All, sum_by-cons, sum_by_more_le, get_or-le-sum_by, slice_get_within, get_or_from_slice_get, same_Some, none-some, InstructionParts, AssortmentParts, IsInstruction, IsAssortment, classes, classes_of, classes_before, opening_targets, AreTargets, IsLowSumAt, targets_sum}
+use Rattle.buck_book.proofs.Words.{◌≡◌, ℕ, zero, suc, ◌+◌, ◌<◌, ◌≤◌, List, [], ◌∷◌, All, length, take, drop, slice_index, slice_get, Some, sum, sum_by, refl, ◌∙◌, ap, arith, rules, flat_map, AllByRecursion, below_more, drop-append-add, get_or-take, get_or-drop, length-take-le, length-drop, take-append-le, take_all, get_or_past, length-flat_map, All-append, All-get_or, recursion_from_All, sum_by-cons, sum_by_more_le, get_or-le-sum_by, slice_get_within, get_or_from_slice_get, same_Some, none-some, InstructionParts, AssortmentParts, IsInstruction, IsAssortment, classes, classes_of, classes_before, opening_targets, AreTargets, IsLowSumAt, targets_sum}
 
 pub sum_same : (f : AssortmentParts → List ℕ) → ((a : AssortmentParts) → IsAssortment a → length (f a) ≡ classes_of a)
     → (as_ : List AssortmentParts) → AllByRecursion IsAssortment as_

@@ -21,7 +21,8 @@ pub use Rattle.std.specs.Option.{option_to_list, option_map}
 pub use Rattle.buck_book.specs.Targets.{AreTargets, targets_sum, IsLowSumAt}
 pub use Rattle.buck_book.specs.Plan.{PlanParts, IsPlan, plan_of}
 pub use Rattle.buck_book.specs.Book.{BookParts, book_of, IsBook, IsFirst, IsNext, IsReadyToAdd, SameContent, sheets_from, entry_of, demand_of, ReadyParts, ReadyDemandParts}
-pub use Rattle.buck_book.specs.inner.Running.{IsWalk, Keeps, Tells, GoesOn, IsAfter, IsCopy, IsSheetAfter, AreCounts, AreAtMost, AreCalls, AreGrownBy, AreGrownAt, class_place, standings_of}
+pub use Rattle.buck_book.specs.inner.Running.{IsWalk, Keeps, Tells, GoesOn, IsAfter, IsCopy, IsSheetAfter, AreCounts, AreAtMost, AreCalls, AreGrownBy, AreGrownAt, standings_of}
+pub use Rattle.buck_book.specs.inner.Places.{class_place, ArePlaces}
 pub use Rattle.buck_rule.specs.declared.standing.Standing.{Standing}
 pub use denote.Ref.{Bor}
 pub use denote.Param.Members.{Shared}

@@ -80,7 +80,7 @@ postings_with h harvester p = h.postings ++ Cut (entry_of h harvester p) ∷ []
 abbrev pub postings_with_demand : HistoryParts → ℕ → List ℕ → List Posting
 postings_with_demand h harvester targets = h.postings ++ Demand (demand_of h harvester targets) ∷ []
 
--- a next sheet is there where a posting is an end, and there alone
+-- a next sheet is there exactly if a posting is an end
 abbrev pub IsNext : HistoryParts → Posting → Option SheetParts → Type 0
 IsNext h x next =
     MatchOption next
@@ -88,7 +88,7 @@ IsNext h x next =
     (λ s. IsEnd h.instruction h.postings x × IsNextSheet h x s)
 
 -- a posting can be added, whoever commits it: the book is below its capacity, has memory for the posting and for a next
--- sheet, and that is there where the posting is an end, and is right
+-- sheet, and that is there if the posting is an end, and is right
 pub record IsReadyToAdd {F : Type 0} (b : BookParts F) (x : ℕ → Posting) (next : Option SheetParts) : Type 0 where
   pub below : length b.history.postings < b.capacity
   pub next_is : (harvester : ℕ) → IsNext b.history (x harvester) next

@@ -1,4 +1,4 @@
--- What was cut, counted anew over a whole list of postings. A demand cuts nothing.
+-- What was cut, counted over a whole list of postings. A demand cuts nothing.
 use Rattle.std.specs.Prelude.{ℕ, ◌≡◌, ◌==◌, ◌&&◌, Bool, List, length, sum_by, count_by, slice_index}
 use Rattle.buck_apt.specs.declared.class.Class.{Class}
 use Rattle.buck_apt.specs.Instruction.{InstructionParts, IsClass, classes, index_of}

@@ -14,7 +14,7 @@ part_of i a at numbers = take (classes_of a) (drop (classes_before i at) numbers
 abbrev pub shared_of : ℕ → ℕ → List ℕ → List ℕ → ℕ
 shared_of wanted cut targets counts = sum_by (λ p. min (p.0 * cut) (p.1 * wanted)) (zip targets counts)
 
--- in ten-thousandths, rounded down once; none where nothing is wanted or nothing was cut
+-- in ten-thousandths, rounded down once; none if nothing is wanted or nothing was cut
 abbrev pub degree_of : List ℕ → List ℕ → Option ℕ
 degree_of targets counts =
     cond

@@ -95,7 +95,7 @@ abbrev pub sheets_with : List (List ℕ) → Option SheetParts → List (List �
 sheets_with sheets None = sheets
 sheets_with sheets (Some s) = sheets ++ s.prices ∷ []
 
--- a history with one posting more, and the next sheet where there is one
+-- a history with one posting more, and the next sheet if there is one
 abbrev pub history_with : HistoryParts → Posting → Option SheetParts → HistoryParts
 history_with h x next = record {
   instruction = h.instruction;

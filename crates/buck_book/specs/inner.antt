@@ -1,3 +1,4 @@
 pub mod Running
+pub mod Places
 pub mod Pricing
 pub mod Parts

@@ -60,7 +60,7 @@ impl<F> Model for Book<F> {
         (map (λ a. a.value) b.sheets.items) b.running b.calls.items };
 }
 
-/// Adds a posting to a book's lists, and the next sheet, if there is one, where there is memory for both.
+/// Adds a posting to a book's lists, and the next sheet if there is one; there is memory for both.
 fn add(
     postings: &mut Vec<Posting>,
     sheets: &mut Vec<Arc<Sheet>>,
@@ -185,7 +185,7 @@ impl<F: Drop> Book<F> {
         }
     }
 
-    /// The same book with another rule, which is asked for each sheet from here on.
+    /// Continues the book with another rule, which is asked for each sheet from here on.
     pub fn with_rule<G>(self, rule: Rule<G>) -> Book<G>
         ensures rule { result.rule ≡ rule }
         ensures history { result.history ≡ self.history }
@@ -220,7 +220,7 @@ impl<F: Drop> Book<F> {
         self.sheets.reserve(1)
     }
 
-    /// Adds a plan's entry at the end of the history, and the next sheet where the period ends; answers the entry. It
+    /// Adds a plan's entry at the end of the history, and the next sheet if the period ends; answers the entry. It
     /// takes no memory and can't fail. The commit was prepared for this plan by this book, with no commit since, and
     /// the harvester is from 1 to 64.
     pub fn commit(&mut self, ready: Ready, harvester: u32, plan: Plan) -> Entry
@@ -311,7 +311,7 @@ impl<F: Fn(&Standing) -> u64> Book<F> {
         })
     }
 
-    /// The next sheet after a plan's entry, where that ends a period.
+    /// The next sheet after a plan's entry, if that ends a period.
     #[tactic(auto, using(crate::proofs::Told::cuts_few))]
     fn next_sheet(&self, alloc: Global, plan: &Plan) -> Result<Option<Arc<Sheet>>, Memory>
         requires answers { Answers F.Fn self.now.rule }
@@ -325,15 +325,16 @@ impl<F: Fn(&Standing) -> u64> Book<F> {
         if self.running.cuts + 1 != self.instruction.period() {
             return Ok(None);
         }
+        // In a second list of the counts: if the preparation is dropped, the book has nothing to undo.
         let mut after = self.running.clone()?;
         after.after_plan(plan);
         Ok(Some(after.sheet(alloc, &self.rule, &self.instruction)?))
     }
 
-    /// Prepares the commit of a plan: makes all that the commit stores or hands out, with the next sheet where the
+    /// Prepares the commit of a plan: makes all that the commit stores or hands out, with the next sheet if the
     /// plan's entry ends a period, and the room that it needs in the book's lists. The content stays as it was.
-    /// Refused as `Full` at the capacity, else as `Stale` where the plan's sheet isn't the one in force, and as
-    /// `Memory` where a growth was refused.
+    /// Refused as `Full` at the capacity, else as `Stale` if the plan's sheet isn't the one in force, and as `Memory`
+    /// if an allocation failed.
     pub fn prepare(&mut self, alloc: Global, plan: &Plan) -> Result<Ready, Refusal>
         requires answers { Answers F.Fn self.old.rule }
         ensures content { SameContent self.old self.new }
@@ -345,6 +346,7 @@ impl<F: Fn(&Standing) -> u64> Book<F> {
         if self.is_full() {
             return Err(Refusal::Full);
         }
+        // By value: the library has no test with a contract that two shared pointers are one.
         if !plan.sheet().same(self.sheet()) {
             let in_force = self.sheet().clone()?;
             return Err(Refusal::Stale { in_force });
@@ -352,7 +354,7 @@ impl<F: Fn(&Standing) -> u64> Book<F> {
         Ok(self.make_ready(alloc, plan)?)
     }
 
-    /// [`prepare`](Book::prepare) of a plan that is known to be under the sheet in force, as where nobody else commits:
+    /// [`prepare`](Book::prepare) of a plan that is known to be under the sheet in force because nobody else commits:
     /// no sheets are compared, and it is refused as `Full` or `Memory` alone.
     pub fn prepare_in_force(&mut self, alloc: Global, plan: &Plan) -> Result<Ready, CutFault>
         requires answers { Answers F.Fn self.old.rule }
@@ -391,8 +393,8 @@ impl<F: Fn(&Standing) -> u64> Book<F> {
 
     /// Prepares the commit of a demand: makes all that the commit stores or hands out, with the next sheet, and the
     /// room that it needs in the book's lists. The content stays as it was. The targets are one for each class,
-    /// assortment by assortment and row by row. Refused as `Full` at the capacity, else as `Targets` where they aren't
-    /// valid, and as `Memory` where a growth was refused.
+    /// assortment by assortment and row by row. Refused as `Full` at the capacity, else as `Targets` if they aren't
+    /// valid, and as `Memory` if an allocation failed.
     pub fn prepare_demand(
         &mut self,
         alloc: Global,
@@ -415,6 +417,7 @@ impl<F: Fn(&Standing) -> u64> Book<F> {
         }
         let mut after = self.running.clone()?;
         after.after_demand(targets.clone()?);
+        // All three shares now: sharing can be refused, and the commit can't be.
         let ready = ReadyDemand {
             stored: targets.clone()?,
             in_force: targets.clone()?,

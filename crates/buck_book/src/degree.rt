@@ -24,7 +24,7 @@ fn shared(targets: &[u32], counts: &[u32], wanted: u128, cut: u128) -> u128
 
 /// The degree of apportionment of the assortment at a place, in ten-thousandths, rounded down once, given what is
 /// wanted of each class of the instruction and how many logs were cut in each: how far these logs have the proportions
-/// of those wanted. None where nothing is wanted of the assortment or nothing was cut.
+/// of those wanted. None if nothing is wanted of the assortment or nothing was cut.
 pub fn degree_at(
     instruction: &Instruction,
     targets: &[u32],

@@ -49,7 +49,7 @@ pub enum DemandRefusal {
     /// The targets aren't valid.
     #[error("{0}")]
     Targets(TargetsFault),
-    /// A growth was refused.
+    /// An allocation failed.
     #[error("out of memory")]
     Memory,
 }

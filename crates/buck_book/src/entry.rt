@@ -8,10 +8,10 @@ use buck_value::Log;
 use std::marker::Model;
 use std::sync::Arc;
 
-/// What was cut of one stem, under which prices.
+/// A cut: the logs of one stem, and the prices it was planned under.
 #[derive(Drop)]
 pub struct Entry {
-    /// Who cut it, 1 to 64.
+    /// Number of the harvester that cut it, 1 to 64.
     pub harvester: u32,
     /// Which of its harvester's calls it is, from 1.
     pub number: u32,

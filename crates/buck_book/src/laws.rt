@@ -15,8 +15,8 @@ pub fn prefix_is_lawful()
     ensures { (h : HistoryParts) (k : ℕ) → IsLawful h → k ≤ length h.postings → IsLawful (first_of k h) }
 {}
 
-/// A lawful history with one posting more that may follow, and with a next sheet where that posting is an end and there
-/// alone, is lawful.
+/// A lawful history with one posting more that may follow, and with a next sheet exactly if that posting is an end, is
+/// lawful.
 #[tactic(auto, using(crate::proofs::Extend::one_more))]
 pub fn one_more_is_lawful()
     ensures { (h : HistoryParts) (x : Posting) (next : Option SheetParts)
@@ -26,7 +26,7 @@ pub fn one_more_is_lawful()
         → IsLawful (history_with h x next) }
 {}
 
-/// Where no demand stands, the ends are the full periods.
+/// If no demand stands, the ends are the full periods.
 #[tactic(auto, using(crate::proofs::Alone::ends_alone, crate::proofs::Alone::cuts_alone))]
 pub fn ends_of_cuts_alone()
     ensures { (i : InstructionParts) (es : List EntryParts)
@@ -34,15 +34,15 @@ pub fn ends_of_cuts_alone()
         → (ends_of i (map Cut es) ≡ length es / i.period) × (cuts_since_end i (map Cut es) ≡ length es % i.period) }
 {}
 
-/// Where no demand stands, a history is lawful exactly where it is lawful in words that know of no demand.
+/// If no demand stands, a history is lawful exactly if it is lawful in words that know of no demand.
 pub fn lawful_of_cuts_alone()
     ensures { (i : InstructionParts) (sheets : List (List ℕ)) (es : List EntryParts)
         → IsInstruction i
         → IsLawful (alone.history_of i sheets es) ↔ alone.IsLawful i sheets es }
 {}
 
-/// A demand is an end, and what comes after it goes on as a history of its own: the ends are those before it, itself, and
-/// those of what comes after, counted as from an opening.
+/// A demand is an end, and what comes after it goes on as a history of its own: the ends are those before it, itself,
+/// and those of what comes after, counted as from an opening.
 #[tactic(auto, using(crate::proofs::Ends::ends_around, crate::proofs::Ends::cuts_around))]
 pub fn ends_around_a_demand()
     ensures { (i : InstructionParts) (before after : List Posting) (d : DemandParts)

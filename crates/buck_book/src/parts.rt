@@ -13,7 +13,7 @@ use buck_value::Sheet;
 use std::marker::Model;
 use std::sync::Arc;
 
-/// What a book held: a lawful history, the targets in force at its end, and how many logs were cut in each class.
+/// The content of a book: a lawful history, the targets in force at its end, and the number of logs cut in each class.
 #[derive(Drop)]
 pub struct Parts {
     pub(crate) instruction: Arc<Instruction>,

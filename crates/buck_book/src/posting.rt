@@ -14,7 +14,7 @@ pub const MOST_POSTINGS: u32 = 1_000_000;
 /// New targets that come into force.
 #[derive(Drop)]
 pub struct Demand {
-    /// Who put them in force, 1 to 64.
+    /// Number of the harvester that put them in force, 1 to 64.
     pub harvester: u32,
     /// Which of its harvester's calls it is, from 1.
     pub number: u32,
@@ -38,7 +38,7 @@ impl Model for Demand {
     } };
 }
 
-/// What stands in a history.
+/// A posting of a history: a cut or a demand.
 #[derive(Drop)]
 pub enum Posting {
     /// A stem was cut.

@@ -36,7 +36,7 @@ impl Model for Ready {
 }
 
 impl Ready {
-    /// The next sheet, where the commit ends a period.
+    /// The next sheet, if the commit ends a period.
     pub fn next_sheet(&self) -> Option<&Arc<Sheet>>
         ensures { option_map (λ a. a.now.value) result ≡ self.now.next }
     {
@@ -53,7 +53,7 @@ pub enum Refusal {
     /// The plan was made under another sheet than the one in force, which is given back.
     #[error("the plan was made under another sheet than the one in force")]
     Stale { in_force: Arc<Sheet> },
-    /// A growth was refused.
+    /// An allocation failed.
     #[error("out of memory")]
     Memory,
 }
@@ -84,13 +84,13 @@ impl From<Memory> for Refusal {
     }
 }
 
-/// Why a stem wasn't cut, where its plan can't be stale. The history is then as before.
+/// Why a stem wasn't cut, if its plan can't be stale. The history is then as before.
 #[derive(Clone, Copy, PartialEq, Eq, Debug, Drop, Error)]
 pub enum CutFault {
     /// The history is at its capacity.
     #[error("the history is at its capacity")]
     Full,
-    /// A growth was refused.
+    /// An allocation failed.
     #[error("out of memory")]
     Memory,
 }

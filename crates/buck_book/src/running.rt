@@ -1,5 +1,5 @@
 //! What runs on along postings: a book and a walk hold one each.
-ghost use Rattle.std.specs.Prelude.{List, ◌≡◌, ◌+◌, ◌<◌, ◌≤◌, ◌^◌, ◌==◌, [], IfOk, OnOk, All, cond, length, slice_index, slice_set};
+ghost use Rattle.std.specs.Prelude.{ℕ, List, ◌≡◌, ◌+◌, ◌<◌, ◌≤◌, ◌^◌, ◌==◌, [], IfOk, OnOk, All, cond, length, slice_index, slice_set};
 ghost use Rattle.buck_apt.specs.Instruction.{InstructionParts, classes};
 ghost use Rattle.buck_rule.specs.Stored.{Answers};
 ghost use Rattle.buck_value.specs.Allowed.{IsAllowed, class_of, end_of};
@@ -8,7 +8,8 @@ ghost use Rattle.buck_book.specs.declared.posting.Posting.{Posting};
 ghost use Rattle.buck_book.specs.Entry.{EntryParts, DemandParts};
 ghost use Rattle.buck_book.specs.Targets.{AreTargets};
 ghost use Rattle.buck_book.specs.Walk.{IsCountable};
-ghost use Rattle.buck_book.specs.inner.Running.{AreAtMost, AreGrownAt, AreGrownBy, class_place, Tells, GoesOn, IsAfter, IsCopy, IsSheetAfter};
+ghost use Rattle.buck_book.specs.inner.Places.{ArePlaces, class_place};
+ghost use Rattle.buck_book.specs.inner.Running.{AreGrownAt, AreGrownBy, Tells, GoesOn, IsAfter, IsCopy, IsSheetAfter};
 ghost use Rattle.buck_book.specs.declared.posting.TheConstants.{MOST_POSTINGS};
 
 use crate::plan::Plan;
@@ -22,7 +23,7 @@ use buck_value::{Log, Sheet, class_of};
 use std::alloc::{AllocError, Global};
 use std::sync::Arc;
 
-/// What some postings add up to, from the opening on.
+/// The sum of some postings, from the opening on.
 #[derive(Drop)]
 pub struct Running {
     /// Targets in force, in logs: assortment by assortment, row by row.
@@ -59,34 +60,48 @@ fn add_one(counts: &mut Vec<u32>, place: usize)
     counts[place] += 1;
 }
 
-/// Counts the logs of a stem's cutting, each allowed under the sheet, by class and by assortment.
-fn add_logs(
-    by_class: &mut Vec<u32>,
-    by_assortment: &mut Vec<u32>,
-    sheet: &Sheet,
-    stem: &Stem,
-    logs: &[Log],
-)
+/// Counts logs by their classes' places.
+fn add_places(counts: &mut Vec<u32>, places: &[usize])
+    requires within { All (λ p. p < length counts.old.items) places.now }
+    requires low { (k : ℕ) → slice_index counts.old.items k ≤ 80000000 }
+    requires few { length places.now ≤ 80 }
+    ensures { AreGrownAt (λ p. p) counts.old.items places.now counts.new.items }
+{
+    for place in places {
+        add_one(counts, *place);
+    }
+}
+
+/// Counts the logs of a stem's cutting, each allowed under the sheet, by class.
+fn add_classes(counts: &mut Vec<u32>, sheet: &Sheet, stem: &Stem, logs: &[Log])
     requires allowed { All (IsAllowed sheet.now.instruction stem.now) logs.now }
-    requires classes { length by_class.old.items ≡ classes sheet.now.instruction }
-    requires assortments { length by_assortment.old.items ≡ length sheet.now.instruction.assortments }
-    requires low { AreAtMost 80000000 by_class.old.items by_assortment.old.items }
+    requires classes { length counts.old.items ≡ classes sheet.now.instruction }
+    requires low { (k : ℕ) → slice_index counts.old.items k ≤ 80000000 }
     requires few { length logs.now ≤ 80 }
-    ensures classes { AreGrownAt (class_place sheet.now.instruction stem.now) by_class.old.items logs.now
-        by_class.new.items }
-    ensures assortments { AreGrownBy by_assortment.old.items logs.now by_assortment.new.items }
+    ensures { AreGrownAt (class_place sheet.now.instruction stem.now) counts.old.items logs.now counts.new.items }
 {
     for log in logs {
         let Some(class) = class_of(sheet, stem, log.start, log.assortment, log.length) else {
             unreachable!()
         };
-        add_one(by_class, sheet.instruction().index(class));
-        add_one(by_assortment, log.assortment as usize);
+        add_one(counts, sheet.instruction().index(class));
+    }
+}
+
+/// Counts logs by assortment.
+fn add_assortments(counts: &mut Vec<u32>, logs: &[Log])
+    requires within { All (λ g. g.assortment < length counts.old.items) logs.now }
+    requires low { (a : ℕ) → slice_index counts.old.items a ≤ 80000000 }
+    requires few { length logs.now ≤ 80 }
+    ensures { AreGrownBy counts.old.items logs.now counts.new.items }
+{
+    for log in logs {
+        add_one(counts, log.assortment as usize);
     }
 }
 
 impl Running {
-    /// What no posting adds up to: the instruction's targets, and counts of 0. Refused as `Memory` alone.
+    /// The sum of no postings: the instruction's targets, and counts of 0. Refused as `Memory` alone.
     pub fn opening(alloc: Global, instruction: &Instruction) -> Result<Running, Memory>
         ensures { IfOk result (λ n. Tells instruction.now [] n) }
     {
@@ -106,7 +121,7 @@ impl Running {
         })
     }
 
-    /// A second one of the same value. Refused only where a growth was.
+    /// A second one of the same value. Refused only if an allocation failed.
     pub fn clone(&self) -> Result<Running, AllocError>
         ensures { IfOk result (λ n. IsCopy self.now n) }
     {
@@ -151,23 +166,37 @@ impl Running {
         // No stem is longer, so its logs are few, and the counts stay small.
         prove!(stem.length() <= 40_000);
         let period = sheet.instruction().period();
-        add_logs(
-            &mut self.by_class,
-            &mut self.by_assortment,
-            sheet,
-            stem,
-            logs,
-        );
+        add_classes(&mut self.by_class, sheet, stem, logs);
+        add_assortments(&mut self.by_assortment, logs);
         (self.cuts, self.version) = cut_more(self.cuts, self.version, period);
     }
 
-    /// Adds the cut of a plan.
+    /// [`after_cut`](Running::after_cut), given the places of the logs' classes.
+    #[tactic(auto, using(crate::proofs::Told::counts_fit))]
+    fn after_placed(&mut self, sheet: &Sheet, stem: &Stem, logs: &[Log], places: &[usize])
+        requires before { GoesOn sheet.now.instruction self.old }
+        requires cutting { IsCutFrom (IsAllowed sheet.now.instruction stem.now) (end_of sheet.now.instruction) 0
+            logs.now }
+        requires places { ArePlaces sheet.now.instruction stem.now logs.now places.now }
+        ensures { (e : EntryParts) → e.stem ≡ stem.now → e.logs ≡ logs.now
+            → IsAfter sheet.now.instruction self.old (Posting.Cut e) self.new }
+    {
+        // No stem is longer, so its logs are few, and the counts stay small.
+        prove!(stem.length() <= 40_000);
+        let period = sheet.instruction().period();
+        add_places(&mut self.by_class, places);
+        add_assortments(&mut self.by_assortment, logs);
+        (self.cuts, self.version) = cut_more(self.cuts, self.version, period);
+    }
+
+    /// Adds the cut of a plan, which has the places of its logs' classes.
     pub fn after_plan(&mut self, plan: &Plan)
         requires { GoesOn plan.now.sheet.instruction self.old }
         ensures { (e : EntryParts) → e.stem ≡ plan.now.stem → e.logs ≡ plan.now.logs
             → IsAfter plan.now.sheet.instruction self.old (Posting.Cut e) self.new }
     {
-        self.after_cut(plan.sheet(), plan.stem(), plan.cutting().logs.as_slice());
+        let logs = plan.cutting().logs.as_slice();
+        self.after_placed(plan.sheet(), plan.stem(), logs, plan.places());
     }
 
     /// Adds a demand of these targets.

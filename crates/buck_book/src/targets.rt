@@ -7,7 +7,7 @@ use buck_apt::slots::{MOST_TARGETS_TOGETHER, TARGETS};
 use buck_apt::{Assortment, Instruction};
 use thiserror::Error;
 
-/// What is wrong with targets.
+/// Why targets are refused.
 #[derive(Clone, Copy, Debug, PartialEq, Eq, Error)]
 pub enum TargetsFault {
     /// There isn't one target for each class.
@@ -34,7 +34,7 @@ pub fn sum_of(targets: &[u32]) -> u64
     all
 }
 
-/// What is wanted of an assortment, over all its classes, of which the first stands at a place among all classes.
+/// Adds up the targets of an assortment, over all its classes, of which the first stands at a place among all classes.
 pub fn targets_sum(assortment: &Assortment, first: usize, targets: &[u32]) -> u64
     requires first { first + classes_of assortment.now ≤ length targets.now }
     ensures { result ≡ sum (take (classes_of assortment.now) (drop first targets.now)) }

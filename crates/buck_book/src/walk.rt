@@ -32,6 +32,7 @@ pub struct Walk<'a> {
     postings: &'a [Posting],
     at: usize,
     running: Running,
+    // A map, unlike a book's list of 64, because a journal's harvester may be any number.
     calls: BTreeMap<u32, u32>,
 }
 

@@ -11,7 +11,7 @@ use std::alloc::Global;
 /// [`buckfleet_version`](buck_calls::buckfleet_version), for C.
 #[unsafe(no_mangle)]
 pub extern "C" fn buckfleet_version() -> u32
-    ensures { result ≡ 7 }
+    ensures { result ≡ 8 }
 {
     buck_calls::buckfleet_version()
 }

@@ -4,3 +4,6 @@ pub mod Paged
 pub mod Splits
 pub mod Turned
 pub mod Logs
+pub mod Handing
+pub mod Ran
+pub mod Asking

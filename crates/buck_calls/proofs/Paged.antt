@@ -11,7 +11,8 @@ use Rattle.buck_engine.specs.run.Viewing.{IsReadFault, ShowsAs}
 use Rattle.buck_calls.specs.Pages.{IsTableFault}
 
 -- what is neither a failed write nor a fault of the journal's postings is the first file's that has one
-pub read_fault : (HasText : HistoryParts → Type 0) (Shown Left : Type 0) (apt journal old new : Option (List ℕ)) (fault : EngineFault)
+pub read_fault : (HasText : HistoryParts → Type 0) (Shown Left : Type 0) (apt journal old new : Option (List ℕ))
+    (fault : EngineFault)
     → ShowsAs apt_of HasText Shown Left apt journal old new (Err fault)
     → fault ≢ Write → ((why : ReplayFault) → fault ≢ Replay why) → IsReadFault apt journal fault
 read_fault HasText Shown Left apt journal old new (Read n) s w r = s.0
@@ -28,8 +29,9 @@ read_fault HasText Shown Left apt journal old new Full s w r = s.0
 read_fault HasText Shown Left apt journal old new Memory s w r = s.0
 read_fault HasText Shown Left apt journal old new (Close x) s w r = s.0
 
--- the same, where a fault of the postings is told too
-pub table_fault : (HasText : HistoryParts → Type 0) (Shown Left : Type 0) (apt journal old new : Option (List ℕ)) (fault : EngineFault)
+-- the same, if a fault of the postings is reported too
+pub table_fault : (HasText : HistoryParts → Type 0) (Shown Left : Type 0) (apt journal old new : Option (List ℕ))
+    (fault : EngineFault)
     → ShowsAs apt_of HasText Shown Left apt journal old new (Err fault) → fault ≢ Write → IsTableFault apt journal fault
 table_fault HasText Shown Left apt journal old new (Read n) s w = inl s.0
 table_fault HasText Shown Left apt journal old new Write s w = absurd (w refl)

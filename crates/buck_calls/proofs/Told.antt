@@ -1,4 +1,4 @@
--- What is told of a refusal is the line of some fault that may be told.
+-- Each refusal is reported by the line of a fault that may come.
 use Rattle.std.proofs.Common.{◌⊎◌, ℕ, List, refl, inl, inr}
 use Rattle.buck_engine.specs.declared.fault.EngineFault.{EngineFault}
 use Rattle.buck_engine.specs.declared.fault.EngineFault.TheVariants.{Memory}
@@ -15,7 +15,7 @@ told Refused fault old new written result r m (inl put) =
     (fault_line fault, status_of fault, (fault, r, refl, refl), put)
 told Refused fault old new written result r m (inr put) = (memory_line, 3, (Memory, m, refl, refl), put)
 
--- what is told of refusals is among what is told at all
+-- reports of refusals are among all reports
 pub or_told : (Answer : List ℕ → ℕ → Type 0) (Refused : EngineFault → Type 0) (old new : List ℕ) (written result : ℕ)
     → IsPut (IsToldOf Refused) old new written result
     → IsPut (λ text status. Answer text status ⊎ IsToldOf Refused text status) old new written result

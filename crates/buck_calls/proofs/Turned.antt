@@ -45,8 +45,8 @@ behind_nothing line status old new texts result none put =
     subst (λ n. IsPutAs line status old new n result) is put
 
 -- the fault's own line was put, or that of memory, with no journal before it
-pub turns_told : (rule : ℕ) (named : NamedRule) (lengths bytes : List ℕ) (fault : EngineFault) (old new : List ℕ) (texts : Texts)
-    (result : ℕ)
+pub turns_told : (rule : ℕ) (named : NamedRule) (lengths bytes : List ℕ) (fault : EngineFault) (old new : List ℕ)
+    (texts : Texts) (result : ℕ)
     → AreUsed rule named lengths bytes → AreRefused lengths bytes fault → texts.journal ≡ 0
     → IsPutAs (fault_line fault) (status_of fault) old new texts.report result
     ⊎ IsPutAs memory_line 3 old new texts.report result
@@ -69,7 +69,7 @@ turns_told rule named lengths bytes fault old new texts result used why none (in
 )
 
 -- each file's bytes, which are known
-known_each : {X : Type 0} (f : X → List ℕ) (xs : List X) → map (λ x. Some (f x)) xs ≡ map Some (map f xs)
+pub known_each : {X : Type 0} (f : X → List ℕ) (xs : List X) → map (λ x. Some (f x)) xs ≡ map Some (map f xs)
 known_each f [] = refl
 known_each f (x ∷ xs) = ap (λ ys. Some (f x) ∷ ys) (known_each f xs)
 
@@ -80,12 +80,13 @@ pub texts_written : {X : Type 0} (rule : NamedRule) (f : X → List ℕ) (apt : 
     → before ≡ [] → journal ≡ before ++ journal_text h.sheets h.postings
     → before_report ≡ [] → report ≡ before_report ++ text → IsReport h text
     → AreTexts rule apt (map f stms) journal report
-texts_written rule f apt stms h before journal before_report report text harvest turns none is none_yet is_report right = (
-  h,
-  (subst (λ files. IsHarvest apt_of (Some apt) files h) (known_each f stms) harvest, turns),
-  is ∙ ap (λ xs. xs ++ journal_text h.sheets h.postings) none,
-  subst (λ xs. IsReport h xs) (sym (is_report ∙ ap (λ xs. xs ++ text) none_yet)) right,
-)
+texts_written rule f apt stms h before journal before_report report text harvest turns none is none_yet is_report
+    right = (
+      h,
+      (subst (λ files. IsHarvest apt_of (Some apt) files h) (known_each f stms) harvest, turns),
+      is ∙ ap (λ xs. xs ++ journal_text h.sheets h.postings) none,
+      subst (λ xs. IsReport h xs) (sym (is_report ∙ ap (λ xs. xs ++ text) none_yet)) right,
+    )
 
 -- and what is no failed write is why there are none
 pub texts_refused : {X : Type 0} (f : X → List ℕ) (ByRule : HistoryParts → Type 0) (apt : List ℕ) (stms : List X)

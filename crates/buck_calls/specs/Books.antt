@@ -50,7 +50,7 @@ rule_of n =
     then Some Root
     else None
 
--- a book is left, of which this holds and what it was before; where there was none, there is none, and that is said
+-- a book is left, of which this holds and what it was before; if there was none, there is none, and the status says so
 abbrev pub IsCallOf : (KeptParts → KeptParts → ℕ → Type 0) → Type 0 → Option KeptParts → Option KeptParts → ℕ → Type 0
 IsCallOf Does Nothing None new status = (new ≡ None) × (status ≡ closed) × Nothing
 IsCallOf Does Nothing (Some before) new status = (after : KeptParts) × (new ≡ Some after) × Does before after status
@@ -71,7 +71,7 @@ IsAllowed terms old =
     (old ≡ None) × (0 < terms.capacity) × (terms.capacity ≤ MOST_POSTINGS)
     × ((rule : NamedRule) × (rule_of terms.rule ≡ Some rule))
 
--- an opening: misused where the block holds a book or the terms aren't allowed
+-- an opening: misused if the block holds a book or the terms aren't allowed
 abbrev pub AnswersOpen : List ℕ → Terms → Option KeptParts → Option KeptParts → ℕ → Type 0
 AnswersOpen apt terms old new status =
     ((status ≡ 0) × IsAllowed terms old × ((rule : NamedRule) × (kept : KeptParts) × (rule_of terms.rule ≡ Some rule)

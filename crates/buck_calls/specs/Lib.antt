@@ -7,3 +7,8 @@ pub mod States
 pub mod Journals
 pub mod Pages
 pub mod Turns
+pub mod Several
+pub mod Asked
+pub mod Trials
+pub mod Ledger
+pub mod inner

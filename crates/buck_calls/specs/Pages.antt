@@ -36,7 +36,7 @@ abbrev pub IsTableFault : Option (List ℕ) → Option (List ℕ) → EngineFaul
 IsTableFault apt journal fault =
     IsReadFault apt journal fault ⊎ ((why : ReplayFault) × (fault ≡ Replay why) × IsOfFault apt journal why)
 
--- a table of a lawful journal, or why there is none; none where there is no table of that number
+-- a table of a lawful journal, or why there is none; none if there is no table of that number
 abbrev pub IsListed : ℕ → List ℕ → List ℕ → List ℕ → ℕ → Type 0
 IsListed table apt journal text status =
     ((5 < table) × (text ≡ []) × (status ≡ misused))

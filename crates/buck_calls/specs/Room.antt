@@ -1,8 +1,8 @@
 -- What a call leaves in the caller's room.
 use Rattle.std.specs.Prelude.{◌≡◌, ℕ, ◌<◌, ◌≤◌, List, ◌++◌, length, drop}
 
--- some items stand at the start of the room, with the rest as it was, and the status is their own; where the room is
--- too small nothing is written, and the status is 6. Either way their number is told.
+-- some items stand at the start of the room, with the rest as it was, and the status is their own; if the room is too
+-- small nothing is written, and the status is 6. Either way their number is reported.
 pub record IsPutAs {X : Type 0} (items : List X) (status : ℕ) (old new : List X) (written result : ℕ) : Type 0 where
   pub number_is : written ≡ length items
   pub fits : length items ≤ length old → (new ≡ items ++ drop (length items) old) × (result ≡ status)

@@ -9,7 +9,7 @@ use Rattle.buck_held.specs.Kept.{KeptParts}
 use Rattle.buck_calls.specs.declared.state.State.{State}
 use Rattle.buck_calls.specs.Books.{closed, misused}
 
--- what a call answers that only looks: nothing where the block holds no book
+-- what a call answers that only looks: nothing if the block holds no book
 abbrev pub IsShownBy : {X : Type 0} → (KeptParts → List X → ℕ → Type 0) → Option KeptParts → List X → ℕ → Type 0
 IsShownBy Answer None items status = (items ≡ []) × (status ≡ closed)
 IsShownBy Answer (Some kept) items status = Answer kept items status
@@ -34,7 +34,7 @@ abbrev pub AnswersState : Option KeptParts → State → State → ℕ → Type 
 AnswersState None old new status = (new ≡ old) × (status ≡ closed)
 AnswersState (Some kept) old new status = IsStateOf kept new × (status ≡ 0)
 
--- the degree of an assortment, or a number in its place where there is none
+-- the degree of an assortment, or a number in its place if there is none
 abbrev pub no_degree : ℕ
 no_degree = 4294967295
 

@@ -48,7 +48,7 @@ abbrev pub AreUsed : ℕ → NamedRule → List ℕ → List ℕ → Type 0
 AreUsed rule named lengths bytes =
     (rule_of rule ≡ Some named) × (0 < length lengths) × (sum lengths ≡ length bytes)
 
--- the texts, or the line of the fault, which stands where the report would, and no journal; none where it is misused
+-- the texts; or no journal, and the line of the fault in the place of the report; neither if it is misused
 abbrev pub IsTurned : ℕ → List ℕ → List ℕ → List ℕ → List ℕ → ℕ → Type 0
 IsTurned rule lengths bytes journal report status =
     (AreMisused rule lengths bytes × (journal ≡ []) × (report ≡ []) × (status ≡ misused))
@@ -56,7 +56,7 @@ IsTurned rule lengths bytes journal report status =
     × ((HaveTexts named lengths bytes journal report × (status ≡ 0))
     ⊎ ((journal ≡ []) × IsToldOf (AreRefused lengths bytes) report status)))
 
--- a journal and a report were put one after the other, and their lengths are told
+-- a journal and a report were put one after the other, and their lengths are reported
 abbrev pub ArePut : (List ℕ → List ℕ → ℕ → Type 0) → List ℕ → List ℕ → Texts → ℕ → Type 0
 ArePut Answer old new texts result =
     (journal : List ℕ) × (report : List ℕ) × (status : ℕ) × Answer journal report status

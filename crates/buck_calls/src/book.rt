@@ -16,7 +16,7 @@ pub(crate) const DONE: u8 = 0;
 /// The status of a call that is refused for what was handed over.
 pub(crate) const REFUSED: u8 = 1;
 
-/// The status of a call where memory ran out.
+/// The status of a call in which memory ran out.
 pub(crate) const MEMORY: u8 = 3;
 
 /// The status of a call of a block that holds no book.
@@ -28,7 +28,7 @@ pub(crate) const MISUSED: u8 = 8;
 /// The status of a call of a book at its capacity.
 pub(crate) const FULL: u8 = 9;
 
-/// What a book is opened with.
+/// The terms on which a book is opened.
 #[repr(C)]
 #[derive(Clone, Copy, Drop)]
 pub struct Terms {
@@ -82,7 +82,7 @@ fn opened(alloc: Global, apt: &[u8], rule: NamedRule, capacity: u32) -> Result<B
 }
 
 /// Opens a book in a block that holds none: with the instruction that an instruction file has, the base prices in force
-/// and no posting. The answer is 0, 1 where the file is refused, 3 where memory ran out, or 8 where the block holds a
+/// and no posting. The answer is 0, 1 if the file is refused, 3 if memory ran out, or 8 if the block holds a
 /// book or the terms aren't allowed.
 pub fn buckfleet_open(alloc: Global, book: &mut Block, apt: &[u8], terms: &Terms) -> u8
     ensures { AnswersOpen apt.now terms.now book.old.handle.held book.new.handle.held result }
@@ -105,7 +105,7 @@ pub fn buckfleet_open(alloc: Global, book: &mut Block, apt: &[u8], terms: &Terms
     }
 }
 
-/// Closes a book: all that it holds goes back. The answer is 0, or 7 where the block holds none.
+/// Closes a book: all that it holds goes back. The answer is 0, or 7 if the block holds none.
 pub fn buckfleet_close(alloc: Global, book: &mut Block) -> u8
     ensures left { book.new.handle.held ≡ None }
     ensures status { result ≡ (if is_some book.old.handle.held then 0 else closed) }
@@ -152,6 +152,7 @@ fn fell(
     ensures { AnswersCut felled.now samples.now zones.now cut.old cut.new kept.old kept.new result }
 {
     let position = kept.book().len() as u32;
+    // Before the cut, which may put another sheet in force: the worths to show are under this one.
     let Ok(sheet) = kept.book().sheet().clone() else {
         return MEMORY;
     };
@@ -165,9 +166,9 @@ fn fell(
 }
 
 /// Cuts a felled stem for a harvester, under the prices in force, and commits the cutting: the first of the best ones,
-/// its worth, and where it stands in the book go to `cut`. The answer is 0, 1 where the stem is outside the limits of a
-/// stem file, 3 where memory ran out, 7 where the block holds no book, 8 where the harvester isn't from 1 to 64, or 9
-/// where the book is at its capacity; but for 0 nothing is changed.
+/// its worth, and where it stands in the book go to `cut`. The answer is 0, 1 if the stem is outside the limits of a
+/// stem file, 3 if memory ran out, 7 if the block holds no book, 8 if the harvester isn't from 1 to 64, or 9 if the
+/// book is at its capacity; but for 0 nothing is changed.
 pub fn buckfleet_cut(
     alloc: Global,
     book: &mut Block,
@@ -210,8 +211,8 @@ fn retarget(alloc: Global, kept: &mut KeptBook, harvester: u32, targets: &[u32])
 }
 
 /// Puts targets in force for a harvester, one for each class, assortment by assortment and row by row; a period ends
-/// with it. The answer is 0, 1 where the targets aren't valid, 3 where memory ran out, 7 where the block holds no book,
-/// 8 where the harvester isn't from 1 to 64, or 9 where the book is at its capacity; but for 0 nothing is changed.
+/// with it. The answer is 0, 1 if the targets aren't valid, 3 if memory ran out, 7 if the block holds no book,
+/// 8 if the harvester isn't from 1 to 64, or 9 if the book is at its capacity; but for 0 nothing is changed.
 pub fn buckfleet_retarget(alloc: Global, book: &mut Block, harvester: u32, targets: &[u32]) -> u8
     ensures { IsCallOf (AnswersRetarget harvester targets.now) (Unit {0})
         book.old.handle.held book.new.handle.held result }

@@ -5,13 +5,14 @@ ghost use Rattle.buck_engine.specs.run.Checking.{AnswersCheck, AnswersReport};
 ghost use Rattle.buck_calls.specs.Room.{IsPut};
 ghost use Rattle.buck_calls.specs.Files.{IsBucked, IsChecked, IsReported};
 
+use crate::book::DONE;
 use crate::room::put;
 use crate::telling::put_fault;
 use buck_engine::{EngineFault, run_buck, run_check, run_report};
 use std::alloc::Global;
 
-/// The version of the calls: it grows by one where one of them changes.
-const VERSION: u32 = 7;
+/// The version of the calls: it grows by one whenever one of them changes.
+const VERSION: u32 = 8;
 
 /// The text of the stems of one file, bucked by the instruction of the other.
 fn bucked<'x>(alloc: Global, apt: &'x [u8], stm: &'x [u8]) -> Result<Vec<u8>, EngineFault>
@@ -23,7 +24,7 @@ fn bucked<'x>(alloc: Global, apt: &'x [u8], stm: &'x [u8]) -> Result<Vec<u8>, En
     let mut text = Vec::new(alloc);
     match run_buck(alloc, &mut apt, &mut stm, &mut text) {
         Ok(()) => Ok(text),
-        // A list takes each text, but where a growth is refused.
+        // A list takes each text, unless an allocation fails.
         Err(EngineFault::Write) => Err(EngineFault::Memory),
         Err(fault) => Err(fault),
     }
@@ -39,7 +40,7 @@ fn checked<'x>(alloc: Global, apt: &'x [u8], journal: &'x [u8]) -> Result<Vec<u8
     let mut text = Vec::new(alloc);
     match run_check(alloc, &mut apt, &mut journal, &mut text) {
         Ok(()) => Ok(text),
-        // A list takes each text, but where a growth is refused.
+        // A list takes each text, unless an allocation fails.
         Err(EngineFault::Write) => Err(EngineFault::Memory),
         Err(fault) => Err(fault),
     }
@@ -55,7 +56,7 @@ fn reported<'x>(alloc: Global, apt: &'x [u8], journal: &'x [u8]) -> Result<Vec<u
     let mut text = Vec::new(alloc);
     match run_report(alloc, &mut apt, &mut journal, &mut text) {
         Ok(()) => Ok(text),
-        // A list takes each text, but where a growth is refused.
+        // A list takes each text, unless an allocation fails.
         Err(EngineFault::Write) => Err(EngineFault::Memory),
         Err(fault) => Err(fault),
     }
@@ -63,13 +64,13 @@ fn reported<'x>(alloc: Global, apt: &'x [u8], journal: &'x [u8]) -> Result<Vec<u
 
 /// The version of the calls.
 pub fn buckfleet_version() -> u32
-    ensures { result ≡ 7 }
+    ensures { result ≡ 8 }
 {
     VERSION
 }
 
 /// Cuts the stems of a stem file by an instruction file, as the program's `buck` does: the text, or the line of a
-/// fault, goes to the start of `out`, and its length to `written`. The answer is the program's exit status, or 6 where
+/// fault, goes to the start of `out`, and its length to `written`. The answer is the program's exit status, or 6 if
 /// `out` is too small: then nothing else is written.
 pub fn buckfleet_buck(
     alloc: Global,
@@ -81,13 +82,13 @@ pub fn buckfleet_buck(
     ensures { IsPut (IsBucked apt.now stm.now) out.old out.new written.new result }
 {
     match bucked(alloc, apt, stm) {
-        Ok(text) => put(text.as_slice(), 0, out, written),
+        Ok(text) => put(text.as_slice(), DONE, out, written),
         Err(fault) => put_fault(alloc, &fault, out, written),
     }
 }
 
 /// Checks a journal by its instruction, as the program's `check` does: the line of a lawful journal, or of a fault,
-/// goes to the start of `out`, and its length to `written`. The answer is the program's exit status, or 6 where `out`
+/// goes to the start of `out`, and its length to `written`. The answer is the program's exit status, or 6 if `out`
 /// is too small: then nothing else is written.
 pub fn buckfleet_check(
     alloc: Global,
@@ -99,14 +100,14 @@ pub fn buckfleet_check(
     ensures { IsPut (IsChecked apt.now journal.now) out.old out.new written.new result }
 {
     match checked(alloc, apt, journal) {
-        Ok(text) => put(text.as_slice(), 0, out, written),
+        Ok(text) => put(text.as_slice(), DONE, out, written),
         Err(fault) => put_fault(alloc, &fault, out, written),
     }
 }
 
 /// Reports a journal by its instruction, as the program's `report` does: the report of a lawful journal, or the line
 /// of a fault, goes to the start of `out`, and its length to `written`. The answer is the program's exit status, or 6
-/// where `out` is too small: then nothing else is written.
+/// if `out` is too small: then nothing else is written.
 pub fn buckfleet_report(
     alloc: Global,
     apt: &[u8],
@@ -117,7 +118,7 @@ pub fn buckfleet_report(
     ensures { IsPut (IsReported apt.now journal.now) out.old out.new written.new result }
 {
     match reported(alloc, apt, journal) {
-        Ok(text) => put(text.as_slice(), 0, out, written),
+        Ok(text) => put(text.as_slice(), DONE, out, written),
         Err(fault) => put_fault(alloc, &fault, out, written),
     }
 }

@@ -21,7 +21,7 @@ fn put_journal(alloc: Global, kept: &KeptBook, out: &mut [u8], written: &mut usi
 }
 
 /// The journal of a book: the bytes of a file that `buckfleet_check` finds lawful. They go to the start of `out`, and
-/// their number to `written`. The answer is 0, 3 where memory ran out, 6 where there is too little room, or 7 where the
+/// their number to `written`. The answer is 0, 3 if memory ran out, 6 if there is too little room, or 7 if the
 /// block holds no book.
 pub fn buckfleet_journal(alloc: Global, book: &mut Block, out: &mut [u8], written: &mut usize) -> u8
     ensures same { book.new.handle.held ≡ book.old.handle.held }

@@ -10,7 +10,7 @@ use buck_held::{Block, Felled, KeptBook, NamedLog, Zone};
 use buck_own::Judged;
 use std::alloc::Global;
 
-/// What a cutting that an operator names is worth.
+/// The worth of a cutting that an operator names.
 #[repr(C)]
 #[derive(Clone, Copy, Drop)]
 pub struct Appraised {

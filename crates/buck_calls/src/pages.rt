@@ -35,7 +35,7 @@ fn page_of<'x>(
     match run_view(alloc, &mut apt, &mut journal, files, &mut text) {
         Ok(()) => Ok((text, DONE)),
         Err(EngineFault::Replay(why)) => Ok((text, status(&EngineFault::Replay(why)))),
-        // A list takes each text, but where a growth is refused.
+        // A list takes each text, unless an allocation fails.
         Err(EngineFault::Write) => Err(EngineFault::Memory),
         Err(fault) => Err(fault),
     }
@@ -72,7 +72,7 @@ fn listed<'x>(
     let mut text = Vec::new(alloc);
     match run_table(alloc, &mut apt, &mut journal, table, &mut text) {
         Ok(()) => Ok(text),
-        // A list takes each text, but where a growth is refused.
+        // A list takes each text, unless an allocation fails.
         Err(EngineFault::Write) => Err(EngineFault::Memory),
         Err(fault) => Err(fault),
     }
@@ -81,7 +81,7 @@ fn listed<'x>(
 /// Shows a journal, as the program's `view` does: the page of a lawful journal, or of the first fault of another, or
 /// the line of a fault, goes to the start of `out`, and its length to `written`. `names` are the two files' names, as
 /// they stand on the page: the instruction's, a line feed, the journal's. The answer is the program's exit status, or
-/// 6 where `out` is too small: then nothing else is written.
+/// 6 if `out` is too small: then nothing else is written.
 pub fn buckfleet_view(
     alloc: Global,
     apt: &[u8],
@@ -106,8 +106,8 @@ pub fn buckfleet_view(
 
 /// Lists a journal as a table, as the program's `table` does: its classes (0), its postings (1), its logs (2), its
 /// degrees (3), its assortments (4) or the classes that lack logs (5). The table of a lawful journal, or the line of a
-/// fault, goes to the start of `out`, and its length to `written`. The answer is the program's exit status, 6 where
-/// `out` is too small, or 8 where there is no such table: then no text is put.
+/// fault, goes to the start of `out`, and its length to `written`. The answer is the program's exit status, 6 if
+/// `out` is too small, or 8 if there is no such table: then no text is put.
 pub fn buckfleet_table(
     alloc: Global,
     apt: &[u8],

@@ -20,7 +20,7 @@ const MOST_LOGS: usize = 80;
 pub struct CutLog {
     /// Its worth, in millionths of the price unit.
     pub worth: u64,
-    /// Where it starts, in mm from the butt.
+    /// Start of the log, in mm from the butt.
     pub start: u32,
     /// How long it is, in mm, trim excluded.
     pub length: u32,
@@ -81,7 +81,7 @@ fn class_in(assortment: &Assortment, stem: &Stem, log: &Log, top: u32) -> Class
     }
 }
 
-/// A log that its assortment allows, as C sees it: nothing is tested anew.
+/// A log that its assortment allows, as C sees it: nothing is tested again.
 fn shown_in(sheet: &Sheet, assortment: &Assortment, stem: &Stem, log: &Log) -> CutLog
     requires there { slice_get sheet.now.instruction.assortments log.now.assortment ≡ Some assortment.now }
     requires allows { Allows sheet.now.instruction.«module» assortment.now stem.now log.now }

@@ -43,7 +43,7 @@ fn state_of(kept: &KeptBook) -> State
     }
 }
 
-/// How far a book is, in `state`. The answer is 0, or 7 where the block holds none: then `state` is left as it was.
+/// How far a book is, in `state`. The answer is 0, or 7 if the block holds none: then `state` is left as it was.
 pub fn buckfleet_state(alloc: Global, book: &mut Block, state: &mut State) -> u8
     ensures same { book.new.handle.held ≡ book.old.handle.held }
     ensures state { AnswersState book.old.handle.held state.old state.new result }
@@ -57,8 +57,8 @@ pub fn buckfleet_state(alloc: Global, book: &mut Block, state: &mut State) -> u8
 }
 
 /// The prices in force, in price units per m³ or per piece: one for each class, assortment by assortment and row by
-/// row. They go to the start of `out`, and their number to `written`. The answer is 0, 6 where there is too little
-/// room: then `out` is left as it was, or 7 where the block holds no book: then the number is 0.
+/// row. They go to the start of `out`, and their number to `written`. The answer is 0, 6 if there is too little
+/// room: then `out` is left as it was, or 7 if the block holds no book: then the number is 0.
 pub fn buckfleet_prices(alloc: Global, book: &mut Block, out: &mut [u32], written: &mut usize) -> u8
     ensures same { book.new.handle.held ≡ book.old.handle.held }
     ensures put { IsPut (IsShownBy HasPrices book.old.handle.held) out.old out.new written.new result }
@@ -118,9 +118,9 @@ fn degree_of(kept: &KeptBook, assortment: u8, degree: &mut u32) -> u8
     DONE
 }
 
-/// The degree of apportionment of the assortment at a place, in ten-thousandths, or 4,294,967,295 where it has none.
-/// The answer is 0, 7 where the block holds no book, or 8 where there is no such assortment; but for 0 nothing is
-/// told.
+/// The degree of apportionment of the assortment at a place, in ten-thousandths, or 4,294,967,295 if it has none. The
+/// answer is 0, 7 if the block holds no book, or 8 if there is no such assortment; but for 0 `degree` is left as it
+/// was.
 pub fn buckfleet_degree(alloc: Global, book: &mut Block, assortment: u8, degree: &mut u32) -> u8
     ensures same { book.new.handle.held ≡ book.old.handle.held }
     ensures degree { AnswersDegree assortment book.old.handle.held degree.old degree.new result }

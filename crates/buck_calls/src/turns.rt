@@ -1,17 +1,18 @@
 //! The call by which harvesters take turns, over the bytes of an instruction file and stem files.
-ghost use Rattle.std.specs.Prelude.{◌≡◌, ◌<◌, ◌≤◌, ◌↔◌, Some, Err, IfOk, IfErr, IsTrue, map, length, sum};
+ghost use Rattle.std.specs.Prelude.{◌≡◌, ◌<◌, Some, Err, IfOk, IfErr, map, length, sum};
 ghost use Rattle.buck_apt.specs.Apt.{apt_of};
 ghost use Rattle.buck_rule.specs.GivenBy.{GivesBy};
 ghost use Rattle.buck_engine.specs.declared.fleet.serving.Order.TheVariants.{InTurn};
 ghost use Rattle.buck_engine.specs.fleet.Running.{AnswersFleet};
-ghost use Rattle.buck_calls.specs.Turns.{AreFiles, ArePut, AreRefused, AreTexts, HaveTexts, IsTurned};
+ghost use Rattle.buck_calls.specs.Turns.{ArePut, AreRefused, AreTexts, HaveTexts, IsTurned};
 
 use crate::book::{DONE, MISUSED, rule_of};
 use crate::room::put_both;
+use crate::several::{are_lengths, files_of};
 use crate::telling::put_fault;
 use buck_engine::{EngineFault, run_in_turn};
 use buck_rule::{NamedRule, Rule, Standing};
-use std::alloc::{AllocError, Global};
+use std::alloc::Global;
 
 /// How long two texts are that stand one after the other in the caller's room.
 #[repr(C)]
@@ -28,40 +29,6 @@ pub struct Texts {
 struct Turned {
     journal: Vec<u8>,
     report: Vec<u8>,
-}
-
-/// Whether files of these lengths are so long together.
-#[tactic(auto, using(crate::proofs::Splits::sum_drop, crate::proofs::Splits::sum_behind))]
-fn are_lengths(lengths: &[usize], size: usize) -> bool
-    ensures { IsTrue result ↔ (sum lengths.now ≡ size) }
-{
-    let mut left = size;
-    for length in lengths {
-        if *length > left {
-            return false;
-        }
-        left -= *length;
-    }
-    left == 0
-}
-
-/// The files of these lengths, which stand one after the other.
-fn files_of<'x>(
-    alloc: Global,
-    bytes: &'x [u8],
-    lengths: &[usize],
-) -> Result<Vec<&'x [u8]>, AllocError>
-    requires { sum lengths.now ≡ length bytes.now }
-    ensures { IfOk result (λ files. AreFiles lengths.now bytes.now (map (λ file. file.now) files.items)) }
-{
-    let mut files = Vec::new(alloc);
-    let mut left = bytes;
-    for length in lengths {
-        let (file, behind) = left.split_at(*length);
-        files.push(file)?;
-        left = behind;
-    }
-    Ok(files)
 }
 
 /// The texts of harvesters that take turns, by a closure, which answers what a named rule gives.
@@ -83,7 +50,7 @@ fn texts_by<'x, F: Fn(&Standing) -> u64 + Drop>(
     let mut report = Vec::new(alloc);
     match run_in_turn(alloc, apt, stms, rule, Some(&mut journal), &mut report) {
         Ok(()) => Ok(Turned { journal, report }),
-        // A list takes each text, but where a growth is refused.
+        // A list takes each text, unless an allocation fails.
         Err(EngineFault::Write) => Err(EngineFault::Memory),
         Err(fault) => Err(fault),
     }
@@ -126,8 +93,8 @@ fn take_turns<'x>(
 /// Cuts the stems of each stem file by a harvester of its own, in turn, as the program's `fleet --in-turn` does by a
 /// rule: 0 steady, 1 linear, 2 step, 3 root. `files` has the bytes of the instruction file and of the stem files, one
 /// after the other, and `lengths` the length of each in bytes. The journal goes to the start of `out`, and the report
-/// behind it; of a fault the line alone. Their lengths go to `texts`. The answer is the program's exit status, 6 where
-/// `out` is too small: then nothing else is written, or 8 where there is no such rule, no instruction file, or the
+/// behind it; of a fault the line alone. Their lengths go to `texts`. The answer is the program's exit status, 6 if
+/// `out` is too small: then nothing else is written, or 8 if there is no such rule, no instruction file, or the
 /// lengths aren't those of the bytes: then no text is put.
 pub fn buckfleet_in_turn(
     alloc: Global,

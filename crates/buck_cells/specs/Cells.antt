@@ -1,4 +1,4 @@
--- Cells of a table: a comma, and then a number, where there is one.
+-- Cells of a table: a comma, and then a number, if there is one.
 use Rattle.std.specs.Prelude.{ℕ, ◌-◌, Bool, true, false, List, ◌++◌, Option, Some, None, nat_lt, cond, codes}
 use Rattle.std.specs.Fmt.{decimal}
 use Rattle.buck_words.specs.declared.words.Difference.{Difference}

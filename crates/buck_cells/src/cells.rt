@@ -9,7 +9,7 @@ use buck_record::Memory;
 use buck_words::Difference;
 use itoa::Buffer;
 
-/// Puts a comma, and a number behind it if there is one. Refused as `Memory`, where a part may have been put.
+/// Puts a comma, and a number behind it if there is one. If it is refused as `Memory`, a part may have been put.
 pub fn put_number(out: &mut Vec<u8>, number: Option<u128>) -> Result<(), Memory>
     ensures { OnOk result (out.new.items ≡ out.old.items ++ number_cell number) }
 {
@@ -21,7 +21,7 @@ pub fn put_number(out: &mut Vec<u8>, number: Option<u128>) -> Result<(), Memory>
     Ok(())
 }
 
-/// Puts each of some numbers behind a comma. Refused as `Memory`, where some may have been put.
+/// Puts each of some numbers behind a comma. If it is refused as `Memory`, some may have been put.
 pub fn put_numbers(out: &mut Vec<u8>, numbers: &[u128]) -> Result<(), Memory>
     ensures { OnOk result (out.new.items ≡ out.old.items ++ flat_map (λ n. number_cell (Some n)) numbers.now) }
 {
@@ -31,8 +31,8 @@ pub fn put_numbers(out: &mut Vec<u8>, numbers: &[u128]) -> Result<(), Memory>
     Ok(())
 }
 
-/// Puts a comma, and a difference behind it if there is one: with a minus sign if it is below 0. Refused as `Memory`,
-/// where a part may have been put.
+/// Puts a comma, and a difference behind it if there is one: with a minus sign if it is below 0. If it is refused as
+/// `Memory`, a part may have been put.
 pub fn put_difference(out: &mut Vec<u8>, difference: Option<Difference>) -> Result<(), Memory>
     ensures { OnOk result (out.new.items ≡ out.old.items ++ difference_cell difference) }
 {
@@ -48,7 +48,7 @@ pub fn put_difference(out: &mut Vec<u8>, difference: Option<Difference>) -> Resu
     Ok(())
 }
 
-/// Puts a comma, and behind it how far a number changes, if there is a change. Refused as `Memory`, where a part may
+/// Puts a comma, and behind it how far a number changes, if there is a change. If it is refused as `Memory`, a part may
 /// have been put.
 pub fn put_change(out: &mut Vec<u8>, change: Option<Change>) -> Result<(), Memory>
     ensures { OnOk result (out.new.items ≡ out.old.items ++ change_cell change) }
@@ -59,8 +59,8 @@ pub fn put_change(out: &mut Vec<u8>, change: Option<Change>) -> Result<(), Memor
     }
 }
 
-/// Puts three commas, with the least, the mean and the greatest of a spread behind them if there is one. Refused as
-/// `Memory`, where a part may have been put.
+/// Puts three commas, with the least, the mean and the greatest of a spread behind them if there is one. If it is
+/// refused as `Memory`, a part may have been put.
 pub fn put_spread(out: &mut Vec<u8>, spread: Option<Spread>) -> Result<(), Memory>
     ensures { OnOk result (out.new.items ≡ out.old.items ++ spread_cells spread) }
 {

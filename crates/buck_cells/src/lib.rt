@@ -1,6 +1,6 @@
 //! Cells of a table: numbers, what a number changed by, and the least, the mean and the greatest of several changes.
 //!
-//! A cell is a comma and what stands behind it, nothing where there is no number. [`put_number`] puts a number,
+//! A cell is a comma and what stands behind it, nothing if there is no number. [`put_number`] puts a number,
 //! [`put_change`] what one changed by, and [`put_spread`] the three cells of a [`Spread`], which [`spread_of`] has.
 #![tactic(auto)]
 

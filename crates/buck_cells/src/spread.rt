@@ -14,7 +14,7 @@ pub struct Spread {
     pub greatest: Difference,
 }
 
-/// The lesser of two changes, where there are both.
+/// The lesser of two changes, or the only one.
 fn lesser(one: Option<Change>, other: Option<Change>) -> Option<Change>
     ensures { result ≡ lesser one other }
 {
@@ -29,7 +29,7 @@ fn lesser(one: Option<Change>, other: Option<Change>) -> Option<Change>
     }
 }
 
-/// The greater of two changes, where there are both.
+/// The greater of two changes, or the only one.
 fn greater(one: Option<Change>, other: Option<Change>) -> Option<Change>
     ensures { result ≡ greater one other }
 {

@@ -21,7 +21,7 @@ struct Place {
     y: u32,
 }
 
-/// A label of a chart's left axis, and where it stands.
+/// A label of a chart's left axis, and its place.
 #[derive(Clone, Copy)]
 pub(crate) struct Tick {
     pub y: u32,
@@ -209,7 +209,7 @@ fn write_low(out: &mut String, last: u64) -> Result<(), Memory>
     Ok(())
 }
 
-/// Writes what stands behind the curves: a flag at each demand, where they are few and each has a point of its own, and
+/// Writes what stands behind the curves: a flag at each demand, if they are few and each has a point of its own, and
 /// the lower axis.
 pub(crate) fn close_chart(out: &mut String, figures: &Figures<'_>) -> Result<(), Memory>
     requires { 0 < figures.now.postings }
@@ -349,7 +349,10 @@ pub fn write_degree_chart(
     if has_degrees(figures, at) {
         write_degree_curves(alloc, out, figures, at)?;
     } else {
-        write!(out, "<p class=\"none\">No log of it was cut.</p>")?;
+        write!(
+            out,
+            "<p class=\"none\">No log of this assortment was cut.</p>"
+        )?;
     }
     Ok(write!(out, "</figure>")?)
 }

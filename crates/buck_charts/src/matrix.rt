@@ -146,7 +146,7 @@ fn write_share_legend(out: &mut String, steps: &Steps) -> Result<(), Memory> {
     Ok(write!(out, " too many, in points</p>")?)
 }
 
-/// Writes the legend of prices: where too few were cut they are raised.
+/// Writes the legend of prices, which are raised if too few logs were cut.
 fn write_price_legend(out: &mut String, steps: &Steps) -> Result<(), Memory> {
     write!(out, "<p class=\"keys\">lowered ")?;
     write_below(out, steps, true)?;
@@ -289,7 +289,7 @@ impl Matrix<'_> {
         }
     }
 
-    /// Whether it stands beside another one: where there are few columns, and half the page is wide enough.
+    /// Whether it stands beside another one: if there are few columns, and half the page is wide enough.
     fn is_beside(&self) -> bool {
         self.assortment.lengths().len() <= BESIDE && self.least_width() <= HALF
     }
@@ -333,7 +333,7 @@ fn open_matrix(
     Ok(())
 }
 
-/// The numbers of a row, of some that stand row by row; none where there are fewer.
+/// The numbers of a row, of some that stand row by row; none if there are fewer.
 fn row_in(numbers: &[u32], columns: usize, row: usize) -> &[u32]
     requires { 0 < columns }
 {
@@ -377,7 +377,7 @@ fn sum_in(numbers: &[u32], columns: usize, line: Line) -> u64
     all
 }
 
-/// How many classes have a target or a log, and 1 where none has.
+/// Number of classes that have a target or a log, and 1 if none has.
 fn filled(targets: &[u32], counts: &[u32]) -> u64
     ensures { 0 < result }
 {
@@ -469,7 +469,10 @@ fn write_shares(out: &mut String, matrix: &Matrix<'_>) -> Result<(), Memory> {
     write_share_foot(out, matrix)?;
     write!(out, "</tbody></table></div>")?;
     if matrix.cut == 0 {
-        write!(out, "<p class=\"keys\">Nothing was cut of it.</p>")?;
+        write!(
+            out,
+            "<p class=\"keys\">No log of this assortment was cut.</p>"
+        )?;
     } else {
         write_share_legend(out, &steps)?;
     }

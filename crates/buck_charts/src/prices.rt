@@ -18,7 +18,7 @@ struct Off {
     class: ClassText,
     base: u32,
     price: u32,
-    /// How far its logs lie off, times the sum of the targets; below where they are too many.
+    /// How far its logs lie off, times the sum of the targets; below if they are too many.
     gap: Difference,
     /// How far its logs lie off, in tenths of a log.
     tenths: u128,
@@ -140,7 +140,7 @@ fn drawn_in(figures: &Figures<'_>, at: usize) -> Drawn
         let target = u128::from(number_at(targets, i));
         let count = u128::from(number_at(counts, i));
         let gap = gap_of(target * cut, count * wanted);
-        // Where nothing is wanted no gap is above 0.
+        // If nothing is wanted no gap is above 0.
         if base > 0 && wanted > 0 && gap.size > 0 {
             drawn = drawn.with(Off {
                 at: i,
@@ -303,15 +303,15 @@ fn write_no_prices(out: &mut String, figures: &Figures<'_>, drawn: &Drawn) -> Re
     Ok(write!(out, "<p class=\"none\">{why}</p>")?)
 }
 
-/// Writes how the prices of the assortment at an index, from 0, went, of the classes whose logs are furthest from those
-/// wanted. Refused as `Memory` alone.
+/// Writes how the prices of the assortment at an index, from 0, moved, of the classes whose logs are furthest from
+/// those wanted. Refused as `Memory` alone.
 pub fn write_price_chart(out: &mut String, figures: &Figures<'_>, at: usize) -> Result<(), Memory>
     requires some { 0 < figures.now.postings }
     requires exists { at < length figures.now.instruction.now.assortments }
 {
     write!(
         out,
-        "<figure><figcaption>Prices where most logs lack or are too many, change in %</figcaption>"
+        "<figure><figcaption>Prices of the classes furthest off their targets, change in %</figcaption>"
     )?;
     let drawn = drawn_in(figures, at);
     if figures.instruction.limit() > 0 && have_moved(figures, at, &drawn) {

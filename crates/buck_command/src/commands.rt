@@ -13,7 +13,7 @@ use std::alloc::Global;
 /// The name of the program.
 pub(crate) const PROGRAM: &str = "buckfleet";
 
-/// What a command takes behind its name.
+/// What a command takes after its name.
 #[derive(Clone, Copy)]
 enum Word {
     InTurn,
@@ -69,19 +69,19 @@ struct Named {
 static COMMANDS: [Named; 13] = [
     Named {
         name: "buck",
-        about: "Cuts each stem of a stem file into logs of the greatest worth",
+        about: "Cut each stem of a stem file into the most valuable logs",
         help: help::BUCK,
         words: &[Threads, Quiet, Apt, Stm, Explain],
     },
     Named {
         name: "fleet",
-        about: "Cuts stem files by a fleet of harvesters, one for each file",
+        about: "Cut stem files by a fleet of harvesters, one for each file",
         help: help::FLEET,
         words: &[InTurn, Rule, Period, Limit, Out, Quiet, Apt, Stms, Explain],
     },
     Named {
         name: "sweep",
-        about: "Compares rules, periods and limits on the same stems",
+        about: "Compare rules, periods and limits on the same stems",
         help: help::SWEEP,
         words: &[
             Rules, Periods, Limits, Targets, OwnToo, Draws, Seed, Threads, Quiet, Apt, Stms,
@@ -90,7 +90,7 @@ static COMMANDS: [Named; 13] = [
     },
     Named {
         name: "wishes",
-        about: "Finds what each target of a mill costs",
+        about: "Find what each target of a mill costs",
         help: help::WISHES,
         words: &[
             RuleOfWishes,
@@ -108,7 +108,7 @@ static COMMANDS: [Named; 13] = [
     },
     Named {
         name: "tune",
-        about: "Finds base prices on the stems of a stand like the one to be cut",
+        about: "Find base prices for a stand from the stems of a similar one",
         help: help::TUNE,
         words: &[
             RuleOfTuning,
@@ -124,13 +124,13 @@ static COMMANDS: [Named; 13] = [
     },
     Named {
         name: "live",
-        about: "Cuts stems as they are felled, each answered before the next is read",
+        about: "Cut stems as they are felled, answering each before reading the next",
         help: help::LIVE,
         words: &[Rule, Period, Limit, Out, Quiet, Apt, Explain],
     },
     Named {
         name: "check",
-        about: "Says whether a journal is lawful for an instruction",
+        about: "Check whether a journal is lawful for an instruction",
         help: help::CHECK,
         words: &[
             RuleOfPrices,
@@ -146,31 +146,31 @@ static COMMANDS: [Named; 13] = [
     },
     Named {
         name: "report",
-        about: "Prints the report of a journal, as fleet printed it",
+        about: "Print the report of a journal, as fleet printed it",
         help: help::REPORT,
         words: &[Period, Limit, Quiet, Apt, Journal, Explain],
     },
     Named {
         name: "view",
-        about: "Shows journals as a page for a browser",
+        about: "Show journals as a page for a browser",
         help: help::VIEW,
         words: &[Period, Limit, Threads, Quiet, Apt, Journals, Explain],
     },
     Named {
         name: "table",
-        about: "Shows journals as a table for a spreadsheet",
+        about: "Show journals as a table for a spreadsheet",
         help: help::TABLE,
         words: &[Period, Limit, Threads, Quiet, Apt, Journals, Table, Explain],
     },
     Named {
         name: "appraise",
-        about: "Says what journals bring under the contract of an owner",
+        about: "Show what journals bring under an owner's contract",
         help: help::APPRAISE,
         words: &[Period, Limit, Threads, Quiet, Apt, Journals, Own, Explain],
     },
     Named {
         name: "compare",
-        about: "Sets the figures of two journals side by side",
+        about: "Compare the figures of two journals",
         help: help::COMPARE,
         words: &[
             PeriodEach, LimitEach, Threads, Quiet, Apt, First, Second, Explain,
@@ -178,7 +178,7 @@ static COMMANDS: [Named; 13] = [
     },
     Named {
         name: "explain",
-        about: "Says what a fault line means, and what to do next",
+        about: "Say what a fault line means, and what to do next",
         help: help::EXPLAIN,
         words: &[Line],
     },
@@ -195,7 +195,7 @@ const TABLES: [&str; 6] = [
 ];
 
 /// What is said of stem files.
-const STMS: &str = "The stem files, one for each harvester";
+const STMS: &str = "Stem files, one for each harvester";
 
 fn flag<'a>(alloc: Global, name: &'a str, help: &'a str) -> Arg<'a> {
     Arg::new(alloc, name)
@@ -254,17 +254,17 @@ fn arg<'a>(alloc: Global, word: Word) -> Arg<'a> {
         ).range(1..65)),
         Quiet => flag(alloc, "quiet", help::QUIET).short('q'),
         Explain => flag(alloc, "explain", help::EXPLAINED),
-        Apt => file(alloc, "APT", "The instruction file"),
-        Journal => file(alloc, "JOURNAL", "The journal"),
-        Journals => file(alloc, "JOURNAL", "The journals, 1 to 64").num_args(1..65),
-        First => file(alloc, "JOURNAL", "The first journal"),
-        Second => file(alloc, "OTHER", "The second journal"),
-        Own => file(alloc, "OWN", "The contract, as an instruction file"),
-        Table => file(alloc, "TABLE", "Which table").value_parser(TABLES.as_slice()),
-        Stm => file(alloc, "STM", "The stem file"),
+        Apt => file(alloc, "APT", "Instruction file"),
+        Journal => file(alloc, "JOURNAL", "Journal"),
+        Journals => file(alloc, "JOURNAL", "Journals, 1 to 64").num_args(1..65),
+        First => file(alloc, "JOURNAL", "First journal"),
+        Second => file(alloc, "OTHER", "Second journal"),
+        Own => file(alloc, "OWN", "Owner's contract, as an instruction file"),
+        Table => file(alloc, "TABLE", "Table to print").value_parser(TABLES.as_slice()),
+        Stm => file(alloc, "STM", "Stem file"),
         Stms => file(alloc, "STM", STMS).num_args(1..),
         AnyStms => file(alloc, "STM", STMS).required(false).num_args(0..),
-        Line => file(alloc, "LINE", "The words of the fault line").num_args(1..),
+        Line => file(alloc, "LINE", "Fault line, as one argument or several").num_args(1..),
     }
 }
 
@@ -298,7 +298,7 @@ pub(crate) fn help_text(alloc: Global) -> Result<String, Error> {
 }
 
 /// What is wrong with the words of a command, in the form of what `clap` finds: with the command's usage, or that of
-/// the program where no command has the name.
+/// the program if no command has the name.
 pub(crate) fn mistake(alloc: Global, name: &str, message: &str) -> Result<Error, Error> {
     let mut command = match COMMANDS.iter().find(|named| named.name == name) {
         Some(named) => {

@@ -23,7 +23,7 @@ pub(crate) struct Copied {
 }
 
 impl Copied {
-    /// Keeps what was read. Where there is no room for it, that grows by what is missing, and at least by an eighth.
+    /// Keeps what was read. If there is no room for it, the room grows by what is missing, and at least by an eighth.
     fn keep(&mut self, bytes: &[u8]) {
         self.count = self.count.saturating_add(bytes.len() as u64);
         if !self.is_whole {
@@ -36,7 +36,7 @@ impl Copied {
         self.is_whole = self.is_whole && self.bytes.extend_from_slice(bytes).is_ok();
     }
 
-    /// What was read, where all of it was kept.
+    /// What was read, if all of it was kept.
     pub(crate) fn bytes(&self) -> Option<&[u8]> {
         if self.is_whole {
             Some(self.bytes.as_slice())
@@ -51,7 +51,7 @@ impl Copied {
     }
 }
 
-/// What was read of the inputs of a run, in the order in which they were opened, where that is wanted.
+/// What was read of the inputs of a run, in the order in which they were opened, if that is to be kept.
 #[derive(Drop)]
 pub(crate) struct Kept {
     alloc: Global,
@@ -61,7 +61,7 @@ pub(crate) struct Kept {
     inputs: RefCell<Vec<Copied>>,
 }
 
-/// How many bytes are kept of the input of a name, where that is known; else 0.
+/// Number of bytes that are kept of the input of a name, if it is known; else 0.
 fn size_of<A: Known>(name: &str, known: &A) -> usize {
     match known.size(name) {
         Some(size) if name != DASH => size.min(LIMIT) as usize,
@@ -70,7 +70,7 @@ fn size_of<A: Known>(name: &str, known: &A) -> usize {
 }
 
 impl Kept {
-    /// What is to be kept of inputs of these names, where that is wanted: nothing yet.
+    /// What is kept of inputs of these names, if anything is to be: nothing yet.
     pub(crate) fn of<A: Known>(alloc: Global, names: &[&str], known: &A, is_wanted: bool) -> Kept {
         let mut sizes = Vec::new(alloc);
         for name in names {
@@ -86,7 +86,7 @@ impl Kept {
         }
     }
 
-    /// Another input is opened. The answer is its place, where what is read of it is to be kept.
+    /// Another input is opened. Returns its place, if what is read of it is to be kept.
     pub(crate) fn begin(&self) -> Option<usize> {
         if !self.is_wanted.get() {
             return None;
@@ -245,7 +245,7 @@ impl<'a, 'b, W: io::Write> io::Write for Shared<'a, 'b, W> {
     }
 }
 
-/// Standard output, where it is said in words why a request is refused before that is answered.
+/// Standard output of `live`, before whose answers the reason of a refused request is said in words.
 #[derive(Drop)]
 pub(crate) struct Spoken<'a, 'b, 'c, 'd, W, E, S, C> {
     pub(crate) output: Shared<'a, 'b, W>,
@@ -275,7 +275,7 @@ impl<'a, 'b, 'c, 'd, W: io::Write, E: io::Write, S: io::Write + Copy + Drop, C: 
     }
 }
 
-/// A file that is written anew, or standard output.
+/// A file that is created or replaced, or standard output.
 #[derive(Drop)]
 pub(crate) enum Written<'a, 'b, M, W> {
     Made(M),

@@ -25,7 +25,7 @@ pub enum Trouble {
     Full,
     /// It is the input file at this index, from 0.
     Input(usize),
-    /// It is the file behind a standard stream.
+    /// It is the file of a standard stream.
     Standard,
     /// Another reason.
     Other,
@@ -57,29 +57,29 @@ impl fmt::Display for Troubled<'_> {
         match self.trouble {
             Trouble::Missing => write!(f, "no such file"),
             Trouble::Folder => write!(f, "is a folder"),
-            Trouble::Forbidden => write!(f, "not allowed"),
+            Trouble::Forbidden => write!(f, "permission denied"),
             Trouble::Long => write!(f, "longer than {LIMIT} bytes"),
             Trouble::Full => write!(f, "no space left"),
             Trouble::Input(place) => {
                 let name = self.inputs.get(place).copied().unwrap_or("");
                 write!(f, "is the input file {}", Shown(name.as_bytes()))
             }
-            Trouble::Standard => { write!(f, "is the file behind standard input, output or error") }
+            Trouble::Standard => { write!(f, "is the file of standard input, output or error") }
             Trouble::Other => write!(f, "can't be opened, read or written"),
         }
     }
 }
 
-/// What is known of the files of a run beside their bytes.
+/// Facts about the files of a run beside their bytes.
 pub trait Known {
-    /// How many bytes the file of this name has, where it is a regular one.
+    /// Number of bytes of the file of this name, if it is a regular one.
     fn size(&self, name: &str) -> Option<u64>;
 
-    /// Why the file of this name isn't to be written, where these are the input files; none where it may be. It isn't
-    /// opened for that, nor made.
+    /// Why the file of this name isn't to be written, given the input files; none if it may be. It isn't opened for
+    /// that, nor made.
     fn unwritten(&self, name: &str, inputs: &[&str]) -> Option<Trouble>;
 
-    /// Why the last file that couldn't be opened, made or written couldn't, where the system said so.
+    /// Why the last file that couldn't be opened, made or written couldn't, if the system said so.
     fn refused(&self) -> Option<ErrorKind> {
         None
     }
@@ -98,7 +98,7 @@ pub struct KnownFiles<'a, R> {
 }
 
 impl<'a, R> KnownFiles<'a, R> {
-    /// The files of a runtime, with the desk that keeps why the last of them was refused.
+    /// Returns the files of a runtime, with the desk that keeps why the last of them was refused.
     pub fn of(rt: &'a R, desk: &'a Desk) -> KnownFiles<'a, R> {
         KnownFiles { rt, desk }
     }

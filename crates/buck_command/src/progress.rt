@@ -1,18 +1,24 @@
-//! What a person who looks on is told while long work goes on: which long files were read, and how far a fleet or a
-//! trial is. Of short work nothing is told.
+//! Progress on a screen while long work goes on: which long files were read, and how far a fleet or a
+//! trial is. Short work has none.
 ghost use Rattle.std.specs.Prelude.{◌≡◌};
 ghost use Rattle.std.specs.Option.{option_map};
 
 use crate::inputs::Kept;
-use buck_engine::{Make, Onlooker, Open};
+use crate::notes::input_notes;
+use crate::subject::Subject;
+use crate::working::Work;
+use buck_apt::Instruction;
+use buck_engine::{HasStem, Make, Onlooker, Open};
 use buck_reason::Shown;
+use buck_record::Memory;
 use buck_trial::RunOnlooker;
 use std::alloc::Global;
 use std::io;
+use std::sync::OnceLock;
 use std::sync::atomic::{AtomicBool, AtomicU64, Ordering};
 use std::time::{Clock, Instant};
 
-/// A screen for a person who looks on, and the clock by which it is told how far work is.
+/// A screen for progress, and the clock of its work.
 #[derive(Clone, Copy)]
 pub struct Screen<S, C> {
     pub writer: S,
@@ -21,30 +27,35 @@ pub struct Screen<S, C> {
     pub erases: bool,
 }
 
-/// One line for a person who looks on, where there is one: it is drawn anew in its place, or on a line of its own where
-/// the screen can't erase.
+/// One line of progress on a screen, if there is one: it is updated in place, or on a line of its own if the screen
+/// can't erase. What deserves a warning is noted for that screen.
 #[derive(Drop)]
-pub struct Progress<S, C> {
+pub(crate) struct Progress<'a, S, C> {
     alloc: Global,
-    screen: Option<Screen<S, C>>,
+    pub(crate) screen: Option<Screen<S, C>>,
+    /// The work that goes on, and its files.
+    pub(crate) work: &'a Work<'a>,
+    subject: &'a Subject<'a>,
     start: Option<Instant>,
     is_drawn: AtomicBool,
     /// How many stems or runs there are, and how many of them are done.
     all: AtomicU64,
     done: AtomicU64,
+    /// The warnings about an instruction and the stems that are cut by it, once these are read.
+    pub(crate) notes: OnceLock<Result<String, Memory>>,
 }
 
-/// The least number of bytes of a file that is told of.
+/// The least number of bytes of a file that is reported.
 const LONG: u64 = 1_000_000;
 
-/// The least number of stems of a fleet that is told of.
+/// The least number of stems of a fleet that is reported.
 const MANY: u64 = 1_000;
 
-/// How many seconds work goes on before something is told of it.
+/// Number of seconds that work goes on before it is reported.
 const SOON: u64 = 1;
 
-/// Whether it is told that so many stems of all are planned: at each percent, and no more often than each thousand, and
-/// at the last.
+/// Returns whether it is reported that so many stems of all are planned: at each percent, and no more often than each
+/// thousand, and at the last.
 pub fn is_told(planned: u64, stems: u64) -> bool {
     planned % (stems / 100).max(MANY) == 0 || planned == stems
 }
@@ -54,9 +65,14 @@ fn percent(done: u64, all: u64) -> u64 {
     done.saturating_mul(100) / all.max(1)
 }
 
-impl<S: io::Write + Copy, C: Clock + Copy> Progress<S, C> {
-    /// A line on this screen, for work that begins now; none where there is no screen.
-    pub fn on(alloc: Global, screen: Option<Screen<S, C>>) -> Progress<S, C> {
+impl<'a, S: io::Write + Copy, C: Clock + Copy> Progress<'a, S, C> {
+    /// Returns a line on this screen, for work that begins now; without a screen it draws and notes nothing.
+    pub(crate) fn on(
+        alloc: Global,
+        screen: Option<Screen<S, C>>,
+        work: &'a Work<'a>,
+        subject: &'a Subject<'a>,
+    ) -> Progress<'a, S, C> {
         let start = match &screen {
             Some(screen) => Instant::now(&screen.clock).ok(),
             None => None,
@@ -64,14 +80,17 @@ impl<S: io::Write + Copy, C: Clock + Copy> Progress<S, C> {
         Progress {
             alloc,
             screen,
+            work,
+            subject,
             start,
             is_drawn: AtomicBool::new(false),
             all: AtomicU64::new(0),
             done: AtomicU64::new(0),
+            notes: OnceLock::new(),
         }
     }
 
-    /// Whether the work goes on for so long that something is told of it.
+    /// Whether the work goes on for so long that it is reported.
     fn is_long(&self, clock: &C) -> bool {
         let Some(start) = self.start else {
             return false;
@@ -82,7 +101,7 @@ impl<S: io::Write + Copy, C: Clock + Copy> Progress<S, C> {
         }
     }
 
-    /// Draws the line anew. One that there is no memory for, or that the screen doesn't take, is left out.
+    /// Updates the line. One that there is no memory for, or that the screen doesn't take, is left out.
     fn draw(&self, line: &str) {
         let Some(screen) = &self.screen else {
             return;
@@ -102,7 +121,7 @@ impl<S: io::Write + Copy, C: Clock + Copy> Progress<S, C> {
         }
     }
 
-    /// About how many seconds the rest takes, where so many of all are done; 0 where that isn't known.
+    /// About how many seconds the rest takes, after so many of all are done; 0 if that isn't known.
     fn seconds_left(&self, done: u64, all: u64) -> u64 {
         let (Some(screen), Some(start)) = (&self.screen, self.start) else {
             return 0;
@@ -113,8 +132,8 @@ impl<S: io::Write + Copy, C: Clock + Copy> Progress<S, C> {
         }
     }
 
-    /// The work has ended: what is drawn stays.
-    pub fn end(&self) {
+    /// Ends the line: the work has ended, and what is drawn stays.
+    pub(crate) fn end(&self) {
         if !self.is_drawn.load(Ordering::SeqCst) {
             return;
         }
@@ -125,7 +144,7 @@ impl<S: io::Write + Copy, C: Clock + Copy> Progress<S, C> {
     }
 
     /// A file was read to its end.
-    fn read(&self, name: &str, bytes: u64) {
+    fn read_whole(&self, name: &str, bytes: u64) {
         if bytes < LONG {
             return;
         }
@@ -135,7 +154,14 @@ impl<S: io::Write + Copy, C: Clock + Copy> Progress<S, C> {
     }
 }
 
-impl<S: io::Write + Copy, C: Clock + Copy> Onlooker for Progress<S, C> {
+impl<'a, S: io::Write + Copy, C: Clock + Copy> Onlooker for Progress<'a, S, C> {
+    fn read<F: HasStem>(&self, instruction: &Instruction, files: &[Vec<F>]) {
+        if self.screen.is_some() {
+            let notes = input_notes(self.alloc, self.subject, instruction, files);
+            let _ = self.notes.try_set(notes);
+        }
+    }
+
     fn cutting(&self, stems: usize) {
         self.all.store(stems as u64, Ordering::SeqCst);
         if (stems as u64) < MANY {
@@ -158,7 +184,7 @@ impl<S: io::Write + Copy, C: Clock + Copy> Onlooker for Progress<S, C> {
     }
 }
 
-impl<S: io::Write + Copy, C: Clock + Copy> RunOnlooker for Progress<S, C> {
+impl<'a, S: io::Write + Copy, C: Clock + Copy> RunOnlooker for Progress<'a, S, C> {
     fn making(&self, runs: usize) {
         self.all.store(runs as u64, Ordering::SeqCst);
     }
@@ -181,21 +207,21 @@ impl<S: io::Write + Copy, C: Clock + Copy> RunOnlooker for Progress<S, C> {
     }
 }
 
-/// Files that another opener opens, that are told of when they were read, and of which it is kept what was.
+/// Files that another opener opens. Each is reported when it was read, and what was read is kept.
 #[derive(Drop)]
 pub(crate) struct Watched<'a, O, S, C> {
     pub(crate) files: O,
-    pub(crate) progress: &'a Progress<S, C>,
+    pub(crate) progress: &'a Progress<'a, S, C>,
     pub(crate) kept: &'a Kept,
 }
 
-/// A file that is told of when it was read to its end, and of which it is kept what was.
+/// A file that is reported when it was read to its end. What was read is kept.
 #[derive(Drop)]
 pub(crate) struct WatchedFile<'a, R, S, C> {
     file: R,
     name: Option<String>,
     bytes: u64,
-    progress: &'a Progress<S, C>,
+    progress: &'a Progress<'a, S, C>,
     kept: &'a Kept,
     /// Its place among those of which it is kept.
     place: Option<usize>,
@@ -252,7 +278,7 @@ impl<'a, R, S: io::Write + Copy, C: Clock + Copy> WatchedFile<'a, R, S, C> {
             return;
         }
         if let Some(name) = &self.name {
-            self.progress.read(name.as_str(), self.bytes);
+            self.progress.read_whole(name.as_str(), self.bytes);
         }
     }
 }

@@ -1,7 +1,7 @@
 //! Why a run failed, in words, from its fault and from what was read.
 use crate::inputs::{Copied, DASH};
 use crate::known::{Known, LIMIT, Trouble, Troubled};
-use crate::subject::Subject;
+use crate::subject::{INPUT, Subject};
 use buck_apt::{AptFault, Instruction, Settings, read_apt};
 use buck_engine::{CheckFault, EngineFault};
 use buck_journal::{Journal, JournalFault, ReplayFault, read_journal};
@@ -26,16 +26,10 @@ pub(crate) struct Inquest<'a, A> {
     pub(crate) known: &'a A,
 }
 
-/// The name of standard input.
-pub(crate) const INPUT: &str = "standard input";
-
-/// The name of what stands there behind the bar.
-const BEHIND: &str = "standard input, after the |";
-
 /// The name of standard output.
 const OUTPUT: &str = "standard output";
 
-/// The bytes before and behind the first bar; none behind where there is no bar.
+/// The bytes before and after the first bar; none after it if there is no bar.
 fn halves(bytes: &[u8]) -> (&[u8], Option<&[u8]>) {
     match bytes.iter().position(|b| *b == b'|') {
         Some(bar) => (&bytes[..bar], Some(&bytes[bar + 1..])),
@@ -52,20 +46,7 @@ struct History<'a> {
 }
 
 impl<'a, A: Known> Inquest<'a, A> {
-    /// The name of the file of a number, as it is said.
-    pub(crate) fn name(&self, file: usize) -> &'a str {
-        if self.subject.is_bare() {
-            return if file == 0 { INPUT } else { BEHIND };
-        }
-        match self.subject.names.get(file) {
-            Some(name) if *name == DASH => INPUT,
-            Some(name) => *name,
-            // Requests, whose input no word names.
-            None => INPUT,
-        }
-    }
-
-    /// The bytes of the file of a number, where all of them were kept; none behind a bar that isn't there.
+    /// The bytes of the file of a number, if all of them were kept; none after a bar that isn't there.
     fn bytes(&self, file: usize) -> Option<&'a [u8]> {
         let copies = self.copies;
         if self.subject.is_bare() {
@@ -75,15 +56,15 @@ impl<'a, A: Known> Inquest<'a, A> {
         copies.get(file)?.bytes()
     }
 
-    /// The file of a number, where its bytes are there.
-    pub(crate) fn source(&self, file: usize) -> Option<Source<'a>> {
-        Some(Source::of_file(self.name(file).as_bytes(), self.bytes(file)?))
+    /// The file of a number, if its bytes are there.
+    fn source(&self, file: usize) -> Option<Source<'a>> {
+        Some(Source::of_file(self.subject.name(file).as_bytes(), self.bytes(file)?))
     }
 
     /// The file of a number, by its name.
     fn here(&self, file: usize) -> Here<'a> {
         Here {
-            name: self.name(file).as_bytes(),
+            name: self.subject.name(file).as_bytes(),
             line: None,
         }
     }
@@ -161,7 +142,7 @@ impl<'a, A: Known> Inquest<'a, A> {
         replay_reason(self.alloc, &unlawful, fault)
     }
 
-    /// A journal that is held against the stem file of a harvester; none where what was read of that isn't there.
+    /// A journal that is compared with the stem file of a harvester; none if what was read of that isn't there.
     fn tied<'b>(&self, history: &'b History<'a>, harvester: u32) -> Option<Tied<'b>> {
         let number = (harvester as usize).saturating_add(1);
         let file = self.source(number);
@@ -241,14 +222,14 @@ impl<'a, A: Known> Inquest<'a, A> {
         let trouble = match self.copies.get(file) {
             Some(copied) if copied.count() > LIMIT => Trouble::Long,
             // A folder stands in the place of an input that is closed.
-            Some(_) if self.name(file) == INPUT => Trouble::Other,
+            Some(_) if self.subject.name(file) == INPUT => Trouble::Other,
             Some(copied) => copied.refused.map_or(Trouble::Other, Trouble::of),
             None if file < self.subject.names.len() => {
                 self.known.refused().map_or(Trouble::Other, Trouble::of)
             }
             None => Trouble::Other,
         };
-        self.troubled(self.name(file), trouble)
+        self.troubled(self.subject.name(file), trouble)
     }
 
     /// Why the output or the journal can't be written.
@@ -270,7 +251,7 @@ impl<'a, A: Known> Inquest<'a, A> {
     /// That there are too many stem files, or none.
     fn seats_reason(&self) -> Said {
         let files = self.subject.stem_files();
-        Ok(Some(format!(in self.alloc; "{files} stem files, 1 to 64 wanted\n")?))
+        Ok(Some(format!(in self.alloc; "{files} stem files, expected 1 to 64\n")?))
     }
 
     /// That there are too many stems, or postings.
@@ -286,10 +267,10 @@ impl<'a, A: Known> Inquest<'a, A> {
             };
             stems = stems.saturating_add(source.stems());
         }
-        Ok(Some(format!(in self.alloc; "{stems} stems, at most 1000000 wanted\n")?))
+        Ok(Some(format!(in self.alloc; "{stems} stems, expected at most 1000000\n")?))
     }
 
-    /// The number of a file of targets, which comes behind the stem files.
+    /// The number of a file of targets, which comes after the stem files.
     fn targets_file(&self) -> usize {
         self.subject
             .others
@@ -309,7 +290,7 @@ impl<'a, A: Known> Inquest<'a, A> {
             OwnFault::Refused(fault) => self.apt_reason(file, fault),
             OwnFault::Whole { number, kind } => here.say(
                 self.alloc,
-                format_args!("item {number} {kind} is not that of the instruction"),
+                format_args!("item {number} {kind} differs from that of the instruction"),
             ),
             OwnFault::Part {
                 number,
@@ -318,7 +299,7 @@ impl<'a, A: Known> Inquest<'a, A> {
             } => here.say(
                 self.alloc,
                 format_args!(
-                    "item {number} {kind} of assortment {assortment} is not that of the instruction"
+                    "item {number} {kind} of assortment {assortment} differs from that of the instruction"
                 ),
             ),
         }
@@ -346,21 +327,24 @@ impl<'a, A: Known> Inquest<'a, A> {
         match fault {
             TargetsFault::Count => here.say(
                 self.alloc,
-                "one list of targets (918 1) for each assortment, with a number for each class, wanted",
+                "expected one list of targets (918 1) for each assortment, with a number for each class",
             ),
             TargetsFault::Head { item } => {
-                here.say(self.alloc, format_args!("item {item} has no head"))
+                here.say(
+                    self.alloc,
+                    format_args!("item {item} does not begin with two numbers"),
+                )
             }
             TargetsFault::Digits { list, .. } => here.say(
                 self.alloc,
-                format_args!("list {list} of targets has a word that is no number"),
+                format_args!("list {list} of targets has a word that is not a number"),
             ),
             TargetsFault::Range { .. } | TargetsFault::Sum { .. } => self.wrong_targets(file),
             TargetsFault::Memory => Ok(None),
         }
     }
 
-    /// What was wrong in a run that ended with this fault, in lines of text; none where that isn't known. Refused as
+    /// What was wrong in a run that ended with this fault, in lines of text; none if that isn't known. Refused as
     /// `Memory` alone.
     pub(crate) fn reason(&self, fault: &TermsFault) -> Said {
         match fault {

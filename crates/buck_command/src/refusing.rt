@@ -21,8 +21,8 @@ fn targets_refusal(alloc: Global, source: &Source<'_>, instruction: &Instruction
     source.whole().say(alloc, wrong)
 }
 
-/// Why a line is refused, in a line of text, given its answer and whether it isn't too long; none where it isn't
-/// refused. Refused as `Memory` alone.
+/// Why a line is refused, in a line of text, given its answer and whether it isn't too long; none if it isn't refused.
+/// Refused as `Memory` alone.
 pub(crate) fn refusal(
     alloc: Global,
     source: &Source<'_>,
@@ -36,10 +36,10 @@ pub(crate) fn refusal(
         }
         Err(EngineFault::Stm { fault, .. }) => return request_reason(alloc, source, fault),
         Err(EngineFault::Read { .. }) if fits => {
-            "the input ends within this line, ~ or a line feed wanted"
+            "the input ends within this line, expected ~ or a line feed at its end"
         }
         Err(EngineFault::Read { .. }) => "longer than 1048576 bytes",
-        Err(EngineFault::Full) => "1000000 postings stand in the book, no more are taken",
+        Err(EngineFault::Full) => "the history has 1000000 postings, and takes no more",
         Ok(_) | Err(_) => return Ok(None),
     };
     source.whole().say(alloc, words)

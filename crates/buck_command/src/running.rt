@@ -16,11 +16,10 @@ use std::thread::Threads;
 use std::time::Clock;
 use std::{fmt, io};
 
-/// What is said where a word of the command line is no text.
-const NO_TEXT: &[u8] =
-    b"error: a word of the command line is not UTF-8 text\n\nUsage: buckfleet [COMMAND]\n";
+/// An argument is not UTF-8 text.
+const NO_TEXT: &[u8] = b"error: an argument is not UTF-8 text\n\nUsage: buckfleet [COMMAND]\n";
 
-/// What is said where there is no such fault line.
+/// There is no such fault line.
 const NO_LINE: &str = "there is no such fault line";
 
 /// Lines as they may go to a terminal, which no word that stands in them can steer.
@@ -79,8 +78,8 @@ fn refuse_words<R, W: io::Write, E: io::Write>(
     explain(&mut streams.output, &mut streams.errors, NO_TEXT, true)
 }
 
-/// Says on the errors what the program can be asked for: where there are no words, and a person sits at the input, who
-/// can't mean the bare form. The answer is the exit status, that of a mistake in the words.
+/// Prints the help on the errors, for a run without arguments whose standard input is a terminal. Returns the exit
+/// status, that of a usage error.
 pub fn say_help<R, W: io::Write, E: io::Write>(
     alloc: Global,
     streams: &mut Streams<R, W, E>,
@@ -127,12 +126,12 @@ fn sentence_line(alloc: Global, line: &str) -> Result<Option<Vec<u8>>, AllocErro
     }
 }
 
-/// Does what the words ask for; the first is the program's name. Where they can't be had, it is said why. The answer is
-/// the exit status.
+/// Does what the arguments ask for, the first of which is the program's name. If they can't be read, the errors say
+/// why. Returns the exit status.
 ///
-/// How far long work is, is told on the screen, where there is one and the words don't ask for quiet. What is wrong
-/// where a run fails is said in words before the line of its fault: on the errors where the words ask for it, and else
-/// on the screen. For that, what is read is kept, but requests.
+/// Progress and warnings go to the screen, if there is one and `--quiet` isn't given. If a run fails, the reason is
+/// said in words before its fault line: on the errors with `--explain`, else on the screen. For that, all that is read
+/// is kept, except requests.
 pub fn run<
     T: Threads + Wait + Sync,
     O: Open + Make + Drop,

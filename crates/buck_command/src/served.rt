@@ -19,20 +19,20 @@ use std::sync::Wait;
 use std::thread::Threads;
 use std::time::Clock;
 
-/// Where the files of a run are.
+/// The files of a run.
 #[derive(Drop)]
 pub struct Place<O, A> {
     /// Opens the files that are read, and makes those that are written.
     pub files: O,
-    /// What is known of them beside their bytes.
+    /// Facts about them beside their bytes.
     pub known: A,
 }
 
 /// The most bytes of the line of a fault: the longest that there is has less.
 const MOST: usize = 128;
 
-/// Says how a run ended, as [`conclude_terms`] does, in one write: the line stays whole where several runs say theirs in one
-/// place.
+/// Says how a run ended, as [`conclude_terms`] does, in one write: the line stays whole if several runs say theirs in
+/// one place.
 fn end<E: io::Write>(errors: &mut E, outcome: &Result<(), TermsFault>) -> u8
     ensures { result ≡ terms_status_after outcome.now }
 {
@@ -44,7 +44,7 @@ fn end<E: io::Write>(errors: &mut E, outcome: &Result<(), TermsFault>) -> u8
     status
 }
 
-/// How a run ended, where a file that couldn't be opened for want of memory is no fault of the file.
+/// How a run ended; a file that couldn't be opened because memory ran out is no fault of the file.
 fn told(outcome: Result<(), TermsFault>, refused: Option<ErrorKind>) -> Result<(), TermsFault> {
     match outcome {
         Err(TermsFault::Run(EngineFault::Read { .. })) if refused == Some(ErrorKind::OutOfMemory) =>
@@ -55,6 +55,7 @@ fn told(outcome: Result<(), TermsFault>, refused: Option<ErrorKind>) -> Result<(
 
 /// Does the work between streams that are lent.
 fn serve_lent<
+    'x,
     T: Threads + Wait + Sync,
     O: Open + Make + Drop,
     S: io::Write + Copy + Drop + Sync,
@@ -65,14 +66,12 @@ fn serve_lent<
 >(
     rt: &T,
     alloc: Global,
-    request: &Request<'_>,
     files: O,
-    inlet: &Inlet<'_, R>,
+    inlet: &'x Inlet<'_, R>,
     outlet: &Outlet<'_, W>,
     teller: &Teller<'_, E, S, C>,
+    progress: &'x Progress<'x, S, C>,
 ) -> Result<(), TermsFault> {
-    let screen = if request.quiet { None } else { teller.screen };
-    let progress = Progress::on(alloc, screen);
     let streamed = Streamed {
         files,
         inlet,
@@ -80,11 +79,11 @@ fn serve_lent<
     };
     let mut watched = Watched {
         files: streamed,
-        progress: &progress,
+        progress,
         kept: &inlet.kept,
     };
     // Requests go on for as long as somebody fells: they are not kept.
-    let place = if request.work.is_bare() {
+    let place = if progress.work.is_bare() {
         inlet.kept.begin()
     } else {
         None
@@ -97,8 +96,8 @@ fn serve_lent<
     let outcome = serve_work(
         rt,
         alloc,
-        &request.work,
-        &progress,
+        progress.work,
+        progress,
         &mut watched,
         &mut input,
         &mut output,
@@ -107,23 +106,23 @@ fn serve_lent<
     outcome
 }
 
-/// Says on the screen what is noted behind the work, where that isn't to be quiet.
-fn say_notes<A: Known, E: io::Write, S: io::Write + Copy + Drop, C: Copy + Drop>(
-    request: &Request<'_>,
+/// Prints the warnings after the work on the screen, unless that is to be quiet.
+fn say_notes<A: Known, E: io::Write, S: io::Write + Copy + Drop, C: Clock + Copy + Drop>(
     teller: &Teller<'_, E, S, C>,
     inquest: &Inquest<'_, A>,
+    progress: &Progress<'_, S, C>,
 ) {
-    if request.quiet || teller.screen.is_none() {
+    if progress.screen.is_none() {
         return;
     }
-    if let Ok(text) = inquest.notes(&request.work) {
+    if let Ok(text) = inquest.notes(progress.notes.get()) {
         teller.show(text.as_str());
     }
 }
 
-/// Does what a request asks for. What is wrong where it fails is said in words where that is asked for, or where there
-/// is a screen; then the line of the fault. Where nobody reads the output any more, nothing is said of that. Behind
-/// work that was done it is noted on the screen what is seldom meant. The answer is the exit status.
+/// Does what a request asks for. If it fails, the reason is said in words if that is asked for, or if there is a
+/// screen; then the line of the fault. A closed pipe is not reported. After a successful run the screen has the
+/// warnings. Returns the exit status.
 pub(crate) fn serve_told<
     T: Threads + Wait + Sync,
     O: Open + Make + Drop,
@@ -149,7 +148,9 @@ pub(crate) fn serve_told<
     let kept = Kept::of(alloc, subject.names.as_slice(), &known, teller.is_told());
     let inlet = Inlet::of(&mut streams.input, kept);
     let outlet = Outlet::of(&mut streams.output);
-    let outcome = serve_lent(rt, alloc, request, files, &inlet, &outlet, &teller);
+    let screen = if request.quiet { None } else { screen };
+    let progress = Progress::on(alloc, screen, &request.work, &subject);
+    let outcome = serve_lent(rt, alloc, files, &inlet, &outlet, &teller, &progress);
     let outcome = told(outcome, known.refused());
     if outlet.is_gone() && matches!(&outcome, Err(TermsFault::Run(EngineFault::Write))) {
         return status(&EngineFault::Write);
@@ -163,7 +164,7 @@ pub(crate) fn serve_told<
         known: &known,
     };
     match &outcome {
-        Ok(()) => say_notes(request, &teller, &inquest),
+        Ok(()) => say_notes(&teller, &inquest, &progress),
         Err(fault) if teller.is_told() => {
             if let Ok(Some(text)) = inquest.reason(fault) {
                 teller.say(text.as_str());

@@ -8,24 +8,32 @@ use buck_rule::NamedRule;
 use buck_trial::OwnedTask;
 use std::alloc::{AllocError, Global};
 
+/// The name of standard input.
+pub(crate) const INPUT: &str = "standard input";
+
+/// The name of what follows the bar there.
+const BEHIND: &str = "standard input, after the |";
+
 /// What some work is about.
 #[derive(Drop)]
 pub(crate) struct Subject<'a> {
-    /// The names of its input files, by their numbers; none where both stand on standard input.
+    /// The names of its input files, by their numbers; none if both are on standard input.
     pub(crate) names: Vec<&'a str>,
     /// How many of them come before the stem files.
     pub(crate) others: usize,
-    /// How many of them come behind these.
+    /// Number of them that come after these.
     pub(crate) behind: usize,
     /// How many of them are journals that are shown.
     pub(crate) journals: usize,
-    /// The name of the file that a journal goes into, where one is wanted.
+    /// The name of the file that a journal goes into, if one is asked for.
     pub(crate) out: Option<&'a str>,
-    /// The rule that a journal is held against, where it is.
+    /// Whether prices move by what is cut of the stem files.
+    pub(crate) is_steered: bool,
+    /// The rule that a journal is checked by, if there is one.
     pub(crate) rule: Option<NamedRule>,
-    /// The numbers that are put in the place of the instruction's own, where there are such.
+    /// The numbers that replace the instruction's own, if there are any.
     pub(crate) settings: Option<&'a Settings>,
-    /// The numbers that are put in the place of the instruction's own for a second journal, where it has such.
+    /// The numbers that replace the instruction's own for a second journal, if it has any.
     pub(crate) second: Option<&'a Settings>,
 }
 
@@ -38,6 +46,7 @@ impl<'a> Subject<'a> {
             behind: 0,
             journals: 0,
             out: None,
+            is_steered: false,
             rule: None,
             settings: None,
             second: None,
@@ -52,7 +61,7 @@ impl<'a> Subject<'a> {
         Ok(subject)
     }
 
-    /// What stem files are about, with a file of targets behind them, if there is one.
+    /// What stem files are about, with a file of targets after them, if there is one.
     fn of_stems(
         alloc: Global,
         apt: &'a str,
@@ -67,7 +76,7 @@ impl<'a> Subject<'a> {
         Ok(subject)
     }
 
-    /// The same with the contract of an owner behind them.
+    /// The same with the contract of an owner after them.
     fn of_owned(alloc: Global, task: &'a OwnedTask<'a>) -> Result<Subject<'a>, AllocError> {
         let trial = &task.trial;
         let mut subject = Subject::of_stems(
@@ -96,7 +105,7 @@ impl<'a> Subject<'a> {
         })
     }
 
-    /// What an appraisal is about: journals, and behind them the instruction of an owner.
+    /// What an appraisal is about: journals, and after them the instruction of an owner.
     fn of_appraisal(alloc: Global, task: &'a AppraiseTask<'a>) -> Result<Subject<'a>, AllocError> {
         let journals = task.journals.as_slice();
         let mut subject = Subject::of_journals(alloc, task.apt, journals, &task.settings)?;
@@ -133,13 +142,14 @@ impl<'a> Subject<'a> {
             Work::Buck(task) => Subject::of_files(alloc, task.apt, &[task.stm]),
             Work::Fleet(task) => Ok(Subject {
                 out: task.journal,
+                is_steered: task.rule != NamedRule::Steady,
                 settings: Some(&task.settings),
                 ..Subject::of_files(alloc, task.apt, task.stms.as_slice())?
             }),
             Work::Check(task) => Ok(Subject {
                 others: 2,
-                rule: task.rule,
-                settings: Some(&task.settings),
+                rule: task.by.rule,
+                settings: Some(&task.by.settings),
                 ..Subject::of_files(alloc, task.apt, task.files.as_slice())?
             }),
             Work::View(task) => {
@@ -168,6 +178,19 @@ impl<'a> Subject<'a> {
                 second: Some(&task.second),
                 ..Subject::of_journals(alloc, task.apt, &task.journals, &task.first)?
             }),
+        }
+    }
+
+    /// The name of the file of a number, as it is said.
+    pub(crate) fn name(&self, file: usize) -> &'a str {
+        if self.is_bare() {
+            return if file == 0 { INPUT } else { BEHIND };
+        }
+        match self.names.get(file) {
+            Some(name) if *name == DASH => INPUT,
+            Some(name) => *name,
+            // Requests, whose input no word names.
+            None => INPUT,
         }
     }
 

@@ -1,7 +1,7 @@
-//! What is said in words of a run beside what it prints: on the errors where that is asked for, and else on the screen.
+//! What is said in words of a run beside what it prints: on the errors if that is asked for, else on the screen.
 use crate::progress::Screen;
-use crate::reason::INPUT;
 use crate::refusing::refusal;
+use crate::subject::INPUT;
 use buck_apt::Instruction;
 use buck_engine::EngineFault;
 use buck_reason::Source;
@@ -42,7 +42,7 @@ impl<'a, E: io::Write, S: io::Write + Copy + Drop, C: Copy + Drop> Teller<'a, E,
         self.explain || self.screen.is_some()
     }
 
-    /// Says a text on the screen, where there is one.
+    /// Says a text on the screen, if there is one.
     pub(crate) fn show(&self, text: &str) {
         if let Some(screen) = self.screen {
             let mut writer = screen.writer;

@@ -1,4 +1,4 @@
-//! The words of the command line, and what they ask for.
+//! The arguments of the command line, and what they ask for.
 ghost use Rattle.std.specs.Prelude.{◌≡◌, ◌<◌, ◌≤◌, IfOk, IfSome, vec_len};
 ghost use Rattle.buck_command.specs.Words.{table_name};
 
@@ -6,7 +6,9 @@ use crate::commands::{PROGRAM, mistake, program};
 use crate::inputs::DASH;
 use crate::subject::Subject;
 use crate::working::Work;
-use buck_engine::{BuckTask, CheckTask, FleetTask, Order, Settings, Shown, Table, Task, ViewTask};
+use buck_engine::{
+    BuckTask, CheckTask, CrossCheck, FleetTask, Order, Settings, Shown, Table, Task, ViewTask,
+};
 use buck_ledger::{AppraiseTask, CompareTask};
 use buck_live::LiveTask;
 use buck_record::Memory;
@@ -16,42 +18,42 @@ use buck_trial::{Draws, OwnedTask, TrialTask, TuneTask, WishesTask};
 use clap::{ArgMatches, Error};
 use std::alloc::{AllocError, Global};
 
-/// Why words that `clap` takes ask for no work.
+/// Why arguments that `clap` takes ask for no work.
 #[derive(Drop)]
 enum Unasked {
     /// What is wrong with them.
     Wrong(&'static str),
-    /// A growth was refused.
+    /// An allocation failed.
     Memory,
 }
 
-/// What is said where a word that was accepted can't be had.
-const LOST: &str = "a word of the command line was lost";
+/// An accepted argument can't be had.
+const LOST: &str = "an argument is missing";
 
-/// What is said where the journal's name is that of an input file.
-const EATEN: &str = "OUT is the name of an input file, which would be lost";
+/// OUT has the name of an input file.
+const EATEN: &str = "OUT is an input file, which it would overwrite";
 
-/// What is said where a number of threads isn't one.
-const THREADLESS: &str = "a number of threads is 1 to 64, in digits alone";
+/// `--threads` is not a number in its range.
+const THREADLESS: &str = "--threads must be 1 to 64, in digits alone";
 
-/// What is said where a period or a limit isn't one.
-const NUMBERLESS: &str = "a period is 1 to 1000 and a limit 0 to 1000, each in digits alone";
+/// `--period` or `--limit` is not a number in its range.
+const NUMBERLESS: &str = "--period must be 1 to 1000, and --limit 0 to 1000, in digits alone";
 
-/// What is said where a table would have more runs than it may.
-const MANY: &str = "there is a run for each combination and for each of its draws, at most 10000";
+/// A table would have more runs than the maximum.
+const MANY: &str = "at most 10000 runs: one for each combination, and one for each of its draws";
 
-/// What is said where draws can't be made.
+/// `--draws` or `--seed` is not a number in its range, or `--seed` is alone.
 const DRAWLESS: &str =
-    "draws are 1 to 1000 and a seed 0 to 18446744073709551615, each in digits alone, and a seed is for draws";
+    "--draws must be 1 to 1000 and --seed 0 to 18446744073709551615, in digits alone, and --seed needs --draws";
 
-/// What is said where the instruction is to be read from the input that has the requests.
-const SHARED: &str = "standard input has the requests";
+/// The instruction of `live` is standard input.
+const SHARED: &str = "APT can't be standard input, which has the requests";
 
-/// What is said where standard input is named twice.
-const TWICE: &str = "- stands for standard input, which can be read but once";
+/// Standard input is named twice.
+const TWICE: &str = "only one file can be -, which is standard input";
 
-/// What is said where a word stands before the command that it belongs to.
-const EARLY: &str = "--explain stands behind the name of a command";
+/// `--explain` is given before the command that it belongs to.
+const EARLY: &str = "--explain must come after the name of a command";
 
 impl From<Memory> for Unasked {
     fn from(_memory: Memory) -> Unasked {
@@ -88,7 +90,7 @@ fn named_table(name: &str) -> Option<Table>
     }
 }
 
-/// Names of files, behind the first ones.
+/// Names of files, after the first ones.
 fn names<'a>(
     alloc: Global,
     first: &[&'a str],
@@ -99,7 +101,7 @@ fn names<'a>(
     Ok(names)
 }
 
-/// Whether the journal's name, where there is one, is that of an input file.
+/// Whether the journal's name, if there is one, is that of an input file.
 fn is_input(journal: Option<&str>, apt: &str, stms: &[&str]) -> bool {
     match journal {
         Some(name) if name != DASH => name == apt || stms.iter().any(|stm| *stm == name),
@@ -120,7 +122,7 @@ fn number(word: &str) -> Option<u32> {
     word.parse::<u32>().ok()
 }
 
-/// The number after an option, where it is there.
+/// The number after an option, if it is there.
 fn number_after(words: &ArgMatches<'_>, option: &str) -> Result<Option<u32>, Unasked> {
     match words.get_str(option) {
         None => Ok(None),
@@ -141,7 +143,7 @@ fn settings(words: &ArgMatches<'_>) -> Result<Settings, Unasked> {
     }
 }
 
-/// How many threads there may be at once, where that is said.
+/// The most threads at once, if an option says so.
 fn asked_threads(words: &ArgMatches<'_>) -> Result<Option<u8>, Unasked> {
     match words.get_str("threads") {
         Some(word) if !has_digits_alone(word) => Err(Unasked::Wrong(THREADLESS)),
@@ -185,7 +187,7 @@ fn fleet_task<'a>(alloc: Global, words: &ArgMatches<'a>) -> Result<FleetTask<'a>
 /// The most runs that a table may have.
 const MOST_RUNS: usize = 10_000;
 
-/// The rules of these names; where there is none, the steady one.
+/// The rules of these names; the steady one if there is none.
 fn named_rules(alloc: Global, names: &[&str]) -> Result<Vec<NamedRule>, Memory> {
     let mut rules = Vec::new(alloc);
     for name in names {
@@ -199,7 +201,7 @@ fn named_rules(alloc: Global, names: &[&str]) -> Result<Vec<NamedRule>, Memory> 
     Ok(rules)
 }
 
-/// The numbers of a list, with one comma between; none where one of them isn't one.
+/// The numbers of a list, with one comma between; none if one of them isn't a number.
 fn numbers_in(alloc: Global, list: &str) -> Result<Option<Vec<Option<u32>>>, Memory> {
     let mut numbers = Vec::new(alloc);
     for word in list.split(',') {
@@ -211,7 +213,7 @@ fn numbers_in(alloc: Global, list: &str) -> Result<Option<Vec<Option<u32>>>, Mem
     Ok(Some(numbers))
 }
 
-/// The numbers after an option; where it isn't there, the instruction's own.
+/// The numbers after an option; the instruction's own if it isn't there.
 fn numbers_after(
     alloc: Global,
     words: &ArgMatches<'_>,
@@ -226,7 +228,7 @@ fn numbers_after(
     }
 }
 
-/// A list in which nothing is told.
+/// A list without a number.
 fn own_number(alloc: Global) -> Result<Vec<Option<u32>>, Memory> {
     let mut numbers = Vec::new(alloc);
     numbers.push(None)?;
@@ -244,7 +246,7 @@ fn draws_word(word: &str) -> Result<u16, Unasked> {
     }
 }
 
-/// The seed that a word is, 1 where there is none.
+/// The seed that an argument is, 1 if there is none.
 fn seed_word(word: Option<&str>) -> Result<u64, Unasked> {
     let Some(word) = word else {
         return Ok(1);
@@ -258,7 +260,7 @@ fn seed_word(word: Option<&str>) -> Result<u64, Unasked> {
     }
 }
 
-/// The orders that are to be drawn, where there are some.
+/// The orders that are to be drawn, if there are any.
 fn asked_draws(words: &ArgMatches<'_>) -> Result<Option<Draws>, Unasked> {
     let seed = words.get_str("seed");
     match words.get_str("draws") {
@@ -308,7 +310,7 @@ fn asked_combinations(
     }
 }
 
-/// What the words after `sweep` ask for: where they name targets, draws or an owner's contract, a trial.
+/// What the arguments of `sweep` ask for: a trial if they name targets, draws or an owner's contract.
 fn sweep_work<'a>(alloc: Global, words: &ArgMatches<'a>) -> Result<Work<'a>, Unasked> {
     let draws = asked_draws(words)?;
     let combinations = asked_combinations(alloc, words, &draws)?;
@@ -391,7 +393,7 @@ fn live_task<'a>(words: &ArgMatches<'a>) -> Result<LiveTask<'a>, Unasked> {
     })
 }
 
-/// The rule that a word names, where it is there.
+/// The rule that an argument names, if it is there.
 fn asked_rule(name: Option<&str>) -> Result<Option<NamedRule>, Unasked> {
     match name {
         None => Ok(None),
@@ -409,8 +411,10 @@ fn check_task<'a>(alloc: Global, words: &ArgMatches<'a>) -> Result<CheckTask<'a>
     let journal = word(words, "JOURNAL")?;
     let stms = words.get_strs("STM").unwrap_or(&[]);
     Ok(CheckTask {
-        rule,
-        settings: settings(words)?,
+        by: CrossCheck {
+            rule,
+            settings: settings(words)?,
+        },
         apt,
         files: names(alloc, &[journal], stms)?,
         threads: asked_threads(words)?,
@@ -535,11 +539,11 @@ fn work_of<'a>(alloc: Global, name: &str, words: &ArgMatches<'a>) -> Result<Work
     }
 }
 
-/// What the program's words ask for.
+/// The work that the program's arguments ask for.
 #[derive(Drop)]
 pub struct Request<'a> {
     pub work: Work<'a>,
-    /// Whether nothing is to be said on a terminal of how far the work is.
+    /// Whether progress and warnings are suppressed.
     pub quiet: bool,
     /// Whether faults are to be said in words too.
     pub explain: bool,
@@ -554,7 +558,7 @@ impl Request<'_> {
     }
 }
 
-/// The words of a fault line, with a blank before each.
+/// The words of a fault line, with a space before each.
 fn line_of(alloc: Global, words: &[&str]) -> Result<String, AllocError> {
     let mut line = String::new(alloc);
     for word in words {
@@ -564,7 +568,7 @@ fn line_of(alloc: Global, words: &[&str]) -> Result<String, AllocError> {
     Ok(line)
 }
 
-/// What the program's words ask for.
+/// The request of the arguments: work over files, or the sentence of a fault line.
 #[derive(Drop)]
 pub enum Asked<'a> {
     /// Work over files.
@@ -592,7 +596,7 @@ fn request_of<'a>(alloc: Global, name: &str, words: &ArgMatches<'a>) -> Result<A
     }))
 }
 
-/// What the program's words ask for, the first of which is the program's name; else help or the version, or what is
+/// Returns what the arguments ask for, the first of which is the program's name; else help or the version, or what is
 /// wrong with them.
 pub fn parse<'a>(alloc: Global, words: &'a [String]) -> Result<Asked<'a>, Error> {
     let matches = program(alloc)?.try_get_matches_from(words)?;

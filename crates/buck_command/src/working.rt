@@ -19,7 +19,7 @@ use std::io;
 use std::sync::Wait;
 use std::thread::Threads;
 
-/// What is to be done.
+/// The work of a run.
 #[derive(Drop)]
 pub enum Work<'a> {
     /// A task that waits for nobody.
@@ -57,14 +57,14 @@ impl Work<'_> {
     }
 }
 
-/// What a run reads and writes beside its files.
+/// The streams that a run reads and writes beside its files.
 #[derive(Drop)]
 pub struct Streams<R, W, E> {
-    /// Where both files of the bare form stand, or requests.
+    /// Holds both files of the bare form, or requests.
     pub input: R,
-    /// What is asked for is written here.
+    /// Takes the text that is asked for.
     pub output: W,
-    /// What went wrong is said here.
+    /// Takes the words on what went wrong.
     pub errors: E,
 }
 
@@ -91,8 +91,8 @@ pub fn serve_work<
         (W.contents output.old) (W.contents output.new) result }
 {
     match work {
-        Work::Plain(task) => Ok(serve(alloc, task, input, files, output)?),
-        Work::Buck(task) => Ok(serve_buck(rt, alloc, task, files, output)?),
+        Work::Plain(task) => Ok(serve(alloc, task, onlooker, input, files, output)?),
+        Work::Buck(task) => Ok(serve_buck(rt, alloc, task, onlooker, files, output)?),
         Work::Fleet(task) => Ok(serve_fleet(rt, alloc, task, onlooker, files, output)?),
         Work::Check(task) => Ok(serve_check(rt, alloc, task, files, output)?),
         Work::View(task) => Ok(serve_view(rt, alloc, task, files, output)?),

@@ -1,5 +1,5 @@
 -- What a commit adds to a history.
-use Rattle.std.proofs.Common.{◌≡◌, ◌≤◌, ◌<◌, ℕ, List, [], ◌∷◌, ◌++◌, Option, Some, None, IfSome, refl, sym, ap, ◌∙◌, subst}
+use Rattle.std.proofs.Common.{◌≡◌, ◌≤◌, ◌<◌, ℕ, List, [], ◌∷◌, ◌++◌, Option, Some, IfSome, refl}
 use Rattle.std.proofs.lemmas.Option.{IfSome_then}
 use Rattle.buck_apt.specs.Instruction.{InstructionParts}
 use Rattle.buck_stem.specs.Stem.{StemParts}
@@ -10,102 +10,70 @@ use Rattle.buck_book.specs.Entry.{EntryParts, DemandParts}
 use Rattle.buck_book.specs.Plan.{PlanParts, IsPlan}
 use Rattle.buck_book.specs.Targets.{AreTargets}
 use Rattle.buck_book.specs.History.{HistoryParts, IsLawful, in_force, sheets_with, history_with}
-use Rattle.buck_book.specs.Pricing.{Calls, AreAnswers, AreAnswersWith, AreAnswersWithDemand, AreSheetsBy}
-use Rattle.buck_book.specs.Book.{BookParts, ReadyParts, ReadyDemandParts, SameContent, IsReadyFor, IsReadyDemand, IsNext, entry_of, demand_of}
+use Rattle.buck_book.specs.Pricing.{Calls, AreAnswers, AreAnswersWith, AreAnswersWithDemand}
+use Rattle.buck_book.specs.Book.{BookParts, IsNext, entry_of, demand_of}
 use Rattle.buck_book.proofs.Given.{one_more, same_history}
 use Rattle.buck_cutter.specs.Cut.{OfPrices, HasAdded, HasCut, HasRetargeted, StaysByRule}
 
--- a posting was added, made for what the history was before
-added : (P : OfPrices) (before mid after : HistoryParts) (x : HistoryParts → Posting) (next : Option SheetParts)
-    → mid ≡ before → IsNext mid (x mid) next
-    → IfSome next (λ s. P before.instruction (before.postings ++ x before ∷ []) s.prices)
-    → after.instruction ≡ mid.instruction → after.sheets ≡ sheets_with mid.sheets next
-    → after.postings ≡ mid.postings ++ x mid ∷ []
-    → HasAdded P (x before) before after
-added P before mid after x next same is_next given instruction sheets postings = record {
+-- a posting was added
+added : (P : OfPrices) (before after : HistoryParts) (x : Posting) (next : Option SheetParts)
+    → IsNext before x next → IfSome next (λ s. P before.instruction (before.postings ++ x ∷ []) s.prices)
+    → after.instruction ≡ before.instruction → after.sheets ≡ sheets_with before.sheets next
+    → after.postings ≡ before.postings ++ x ∷ [] → HasAdded P x before after
+added P before after x next is_next given instruction sheets postings = record {
   next = next;
-  next_is = subst (λ h. IsNext h (x h) next) same is_next;
+  next_is = is_next;
   by_rule = given;
-  after_is = same_history after (history_with mid (x mid) next) instruction sheets postings
-      ∙ ap (λ h. history_with h (x h) next) same;
+  after_is = same_history after (history_with before x next) instruction sheets postings;
 }
 
 -- a plan's commit
-pub has_cut : {F : Type 0} (g : Calls F) (b m a : BookParts F) (harvester : ℕ) (plan : PlanParts)
-    (ready : ReadyParts) (entry : EntryParts)
-    → (0 < harvester) × (harvester ≤ 64) → IsPlan plan → plan.sheet ≡ in_force b.history
-    → SameContent b m → IsReadyFor m ready plan
-    → IfSome ready.next (λ s. AreAnswersWith g b.rule b.history plan s.prices)
-    → entry ≡ entry_of m.history harvester plan
-    → a.history.instruction ≡ m.history.instruction → a.history.sheets ≡ sheets_with m.history.sheets ready.next
-    → a.history.postings ≡ m.history.postings ++ Cut entry ∷ []
-    → HasCut (AreAnswers g b.rule) harvester plan.stem b.history a.history entry
-has_cut g b m a harvester plan ready entry who is_plan in_force_is content is_ready given entry_is
-    instruction sheets postings =
-    let x = λ (h : HistoryParts). Cut (entry_of h harvester plan) in
-    let e : entry ≡ entry_of b.history harvester plan = entry_is
-    ∙ ap (λ h. entry_of h harvester plan) content.history in
-    record {
+pub has_cut : {F : Type 0} (g : Calls F) (f : F) (h after : HistoryParts) (harvester : ℕ) (plan : PlanParts)
+    (next : Option SheetParts) (entry : EntryParts)
+    → (0 < harvester) × (harvester ≤ 64) → IsPlan plan → plan.sheet ≡ in_force h
+    → IsNext h (Cut (entry_of h harvester plan)) next → IfSome next (λ s. AreAnswersWith g f h plan s.prices)
+    → entry ≡ entry_of h harvester plan → after.instruction ≡ h.instruction
+    → after.sheets ≡ sheets_with h.sheets next → after.postings ≡ h.postings ++ Cut entry ∷ []
+    → HasCut (AreAnswers g f) harvester plan.stem h after entry
+has_cut g f h after harvester plan next entry who is_plan in_force_is is_next given entry_is instruction sheets
+    postings = record {
       who = who;
       plan = plan;
       is_plan = is_plan;
       same_stem = refl;
       sheet_in_force = in_force_is;
-      entry_is = e;
-      added = subst (λ c. HasAdded (AreAnswers g b.rule) (Cut c) b.history a.history) (sym e)
-          (added (AreAnswers g b.rule) b.history m.history a.history x ready.next content.history
-          (is_ready.to_add.next_is harvester)
-          (IfSome_then ready.next given (λ s answers. answers harvester))
-          instruction sheets (postings ∙ ap (λ c. m.history.postings ++ Cut c ∷ []) entry_is));
+      entry_is = entry_is;
+      added = rw entry_is (added (AreAnswers g f) h after (Cut (entry_of h harvester plan)) next is_next
+          (IfSome_then next given (λ s answers. answers harvester)) instruction sheets (rw entry_is at postings));
     }
 
 -- a demand's commit
-pub has_retargeted : {F : Type 0} (g : Calls F) (b m a : BookParts F) (harvester : ℕ)
-    (targets : List ℕ) (ready : ReadyDemandParts) (demand : DemandParts)
-    → (0 < harvester) × (harvester ≤ 64) → SameContent b m → IsReadyDemand m ready → ready.targets ≡ targets
-    → AreAnswersWithDemand g b.rule b.history targets ready.next.prices
-    → demand ≡ demand_of m.history harvester ready.targets
-    → a.history.instruction ≡ m.history.instruction → a.history.sheets ≡ m.history.sheets ++ ready.next.prices ∷ []
-    → a.history.postings ≡ m.history.postings ++ Demand demand ∷ []
-    → HasRetargeted (AreAnswers g b.rule) harvester targets b.history a.history demand
-has_retargeted g b m a harvester targets ready demand who content is_ready targets_are given demand_is
-    instruction sheets postings =
-    let x = λ (h : HistoryParts). Demand (demand_of h harvester targets) in
-    let d : demand ≡ demand_of m.history harvester targets =
-    demand_is ∙ ap (λ ts. demand_of m.history harvester ts) targets_are in
-    let e : demand ≡ demand_of b.history harvester targets =
-    d ∙ ap (λ h. demand_of h harvester targets) content.history in
-    record {
+pub has_retargeted : {F : Type 0} (g : Calls F) (f : F) (h after : HistoryParts) (harvester : ℕ) (targets : List ℕ)
+    (next : SheetParts) (demand : DemandParts)
+    → (0 < harvester) × (harvester ≤ 64) → AreTargets h.instruction targets
+    → IsNext h (Demand (demand_of h harvester targets)) (Some next)
+    → AreAnswersWithDemand g f h targets next.prices → demand ≡ demand_of h harvester targets
+    → after.instruction ≡ h.instruction → after.sheets ≡ h.sheets ++ next.prices ∷ []
+    → after.postings ≡ h.postings ++ Demand demand ∷ []
+    → HasRetargeted (AreAnswers g f) harvester targets h after demand
+has_retargeted g f h after harvester targets next demand who valid is_next given demand_is instruction sheets
+    postings = record {
       who = who;
-      valid = subst (λ (h : HistoryParts). AreTargets h.instruction targets) content.history
-          (subst (λ ts. AreTargets m.history.instruction ts) targets_are is_ready.valid);
-      demand_is = e;
-      added = subst (λ c. HasAdded (AreAnswers g b.rule) (Demand c) b.history a.history) (sym e)
-          (added (AreAnswers g b.rule) b.history m.history a.history x (Some ready.next) content.history
-          (subst (λ ts. IsNext m.history (Demand (demand_of m.history harvester ts)) (Some ready.next)) targets_are
-          (is_ready.to_add.next_is harvester))
-          (given harvester)
-          instruction sheets (postings ∙ ap (λ c. m.history.postings ++ Demand c ∷ []) d));
+      valid = valid;
+      demand_is = demand_is;
+      added = rw demand_is (added (AreAnswers g f) h after (Demand (demand_of h harvester targets)) (Some next) is_next
+          (given harvester) instruction sheets (rw demand_is at postings));
     }
 
 -- with one posting more a book stays by its rule
 pub still_by_rule : {F : Type 0} (g : Calls F) (b a : BookParts F) (x : Posting) → IsLawful b.history
     → a.rule ≡ b.rule → HasAdded (AreAnswers g b.rule) x b.history a.history → StaysByRule g b a
 still_by_rule g b a x lawful rule added by =
-    subst (λ f. AreSheetsBy g f a.history) (sym rule)
-    (subst (λ (h : HistoryParts). AreSheetsBy g b.rule h) (sym added.after_is)
-    (one_more g b.rule b.history x added.next lawful added.next_is added.by_rule by))
+    rw (rule, added.after_is) (one_more g b.rule b.history x added.next lawful added.next_is added.by_rule by)
 
 pub as_before : {F : Type 0} (g : Calls F) (b a : BookParts F) → a.rule ≡ b.rule → a.history ≡ b.history
     → StaysByRule g b a
-as_before g b a rule history by =
-    subst (λ f. AreSheetsBy g f a.history) (sym rule)
-    (subst (λ (h : HistoryParts). AreSheetsBy g b.rule h) (sym history) by)
-
--- one thing after the other
-pub both_stay : {F : Type 0} (g : Calls F) (b m a : BookParts F) → StaysByRule g b m → StaysByRule g m a
-    → StaysByRule g b a
-both_stay g b m a first last by = last (first by)
+as_before g b a rule history by = rw (rule, history) by
 
 -- what holds of the prices may be said of less
 less_added : (P Q : OfPrices) (x : Posting) (before after : HistoryParts)

@@ -1,4 +1,4 @@
--- What one call adds to the history of a book: a cut, or new targets, and the next sheet where the period ends.
+-- What one call adds to the history of a book: a cut, or new targets, and the next sheet if the period ends.
 use Rattle.std.specs.Prelude.{◌≡◌, ◌≤◌, ◌<◌, ℕ, List, [], ◌∷◌, ◌++◌, Option, IfSome}
 use Rattle.buck_apt.specs.Instruction.{InstructionParts}
 use Rattle.buck_stem.specs.Stem.{StemParts}
@@ -24,7 +24,7 @@ AnyPrices i ps prices = Unit {0}
 abbrev pub opening : InstructionParts → HistoryParts
 opening i = record { instruction = i; sheets = base_prices i ∷ []; postings = [] }
 
--- one posting more; where it is an end, the next sheet is there, of whose prices this holds, and there alone
+-- one posting more, and exactly if it is an end a next sheet, of whose prices this holds
 pub record HasAdded (ArePrices : OfPrices) (x : Posting) (before after : HistoryParts) : Type 0 where
   pub next : Option SheetParts
   pub next_is : IsNext before x next
@@ -50,6 +50,6 @@ pub record HasRetargeted (ArePrices : OfPrices) (harvester : ℕ) (targets : Lis
   pub demand_is : demand ≡ demand_of before harvester targets
   pub added : HasAdded ArePrices (Demand demand) before after
 
--- a book stays by its rule: where the prices of each sheet after an end were answers of its closure, they still are
+-- a book stays by its rule: if the prices of each sheet after an end were answers of its closure, they still are
 abbrev pub StaysByRule : {F : Type 0} → Calls F → BookParts F → BookParts F → Type 0
 StaysByRule g before after = AreSheetsBy g before.rule before.history → AreSheetsBy g after.rule after.history

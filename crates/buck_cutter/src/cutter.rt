@@ -26,7 +26,7 @@ use std::sync::Arc;
 /// A book with the planner of its next stem. Contracts see it as the book.
 ///
 /// The planner's sheet is the book's of the same version, which may be an earlier one than that in force: so a stem is
-/// planned under the sheet in force once the versions are equal, and the planner is renewed where they aren't.
+/// planned under the sheet in force once the versions are equal, and the planner is renewed if they aren't.
 #[derive(Drop)]
 pub struct Cutter<F> {
     book: Book<F>,
@@ -58,6 +58,7 @@ fn plan<F: Drop>(
     ensures sheet { IfOk result (λ p. p.sheet ≡ in_force book.now.history) }
     ensures plan { IfOk result IsPlan }
 {
+    // By version: all sheets of the planner are the book's, so no prices need comparing.
     if planner.sheet().version() != book.version() {
         let _lawful = book.entries();
         planner.renew(alloc, book.sheet().clone()?)?;
@@ -80,7 +81,7 @@ impl<F: Drop> Cutter<F> {
         self.book
     }
 
-    /// The same with another rule, which is asked for each sheet from here on.
+    /// Continues with another rule, which is asked for each sheet from here on.
     pub fn with_rule<G>(self, rule: Rule<G>) -> Cutter<G>
         ensures rule { result.rule ≡ rule }
         ensures history { result.history ≡ self.history }
@@ -134,8 +135,8 @@ impl<F: Fn(&Standing) -> u64 + Drop> Cutter<F> {
     }
 
     /// Commits a plan that was made under the sheet in force, as [`preview`](Cutter::preview) makes it, for a harvester
-    /// from 1 to 64. It answers the entry. Refused as `Full` at the capacity, else as `Memory` where a growth was
-    /// refused; the history is then as before.
+    /// from 1 to 64. It answers the entry. Refused as `Full` at the capacity, else as `Memory` if an allocation failed;
+    /// the history is then as before.
     pub fn commit(&mut self, alloc: Global, plan: Plan, harvester: u32) -> Result<Entry, CutFault>
         requires answers { Answers F.Fn self.old.rule }
         requires in_force { plan.sheet ≡ in_force self.old.history }
@@ -157,7 +158,7 @@ impl<F: Fn(&Standing) -> u64 + Drop> Cutter<F> {
     }
 
     /// Cuts a stem for a harvester from 1 to 64 under the sheet in force: a preview and its commit. Refused as `Full`
-    /// at the capacity, and as `Memory` where a growth was refused; the history is then as before.
+    /// at the capacity, and as `Memory` if an allocation failed; the history is then as before.
     pub fn cut(&mut self, alloc: Global, stem: Arc<Stem>, harvester: u32) -> Result<Entry, CutFault>
         requires answers { Answers F.Fn self.old.rule }
         requires harvester { (0 < harvester) × (harvester ≤ 64) }
@@ -175,8 +176,8 @@ impl<F: Fn(&Standing) -> u64 + Drop> Cutter<F> {
     }
 
     /// Puts targets in force for a harvester from 1 to 64: one for each class, assortment by assortment and row by row.
-    /// It answers the demand. Refused as `Full` at the capacity, else as `Targets` where they aren't valid, and as
-    /// `Memory` where a growth was refused; the history is then as before.
+    /// It answers the demand. Refused as `Full` at the capacity, else as `Targets` if they aren't valid, and as
+    /// `Memory` if an allocation failed; the history is then as before.
     pub fn retarget(
         &mut self,
         alloc: Global,

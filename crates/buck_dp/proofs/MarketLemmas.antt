@@ -7,7 +7,7 @@ use Rattle.buck_dp.proofs.QuoteLemmas.{row_right, quote_short}
 module _ {X : Type 0} (P : PriceList X → Type 0) (lists : List (PriceList X)) (are : AllAre P lists) where
   -- a list that is put behind others is found there, and all are right
   pub list_put : {new : List (PriceList X)} {l : PriceList X} {d : ℕ} (n : ℕ) → new ≡ lists ++ l ∷ [] → length lists ≡ n → P l
-      → IsAsked l.ask d → AllAre P new × IsListAt new l.ask.takers d n
+      → IsAsked l.ask.band d → AllAre P new × IsListAt new l.ask.takers d n
   list_put {new} {l} {d} n is at right asked =
       let there : IsListAt (lists ++ l ∷ []) l.ask.takers d n =
       grind (arith, length-append, same_Some, pushed_at) in
@@ -15,7 +15,7 @@ module _ {X : Type 0} (P : PriceList X → Type 0) (lists : List (PriceList X)) 
 
   -- the list that is found is right, as the code reads it
   pub list_found : {l : PriceList X} {n d : ℕ} {takers : Takers} → IsListAt lists takers d n → l ≡ get_or lists n l
-      → P l × (l.ask.takers ≡ takers) × IsAsked l.ask d
+      → P l × (l.ask.takers ≡ takers) × IsAsked l.ask.band d
   list_found {l} {n} there is = search (rules, slice_get_read)
 
 -- the quotes that are found make a row, and it has what their takers bid

@@ -31,7 +31,7 @@ module _ {p : GroundParts} {v w : List BidParts} {ch : List ℕ} {t stop i e : �
   reaches_still : (k : ℕ) (b : BidParts) → Reaches v k b → Reaches w k b
   reaches_still k b was_reached = search (rules, IsAtMost-trans, kept, worth_at_most)
 
-  -- a search stays right where a log's bid is offered
+  -- a search stays right if a log's bid is offered
   pub still_searched : IsSearch p w ch t stop
   still_searched = record {
     valid = was.valid;
@@ -122,7 +122,7 @@ module _ {p : GroundParts} {v : List BidParts} {ch : List ℕ} {t stop : ℕ} (w
       ]) in
       search rules
 
-  -- where no more logs have a top, all with it are offered
+  -- if no more logs have a top, all with it are offered
   pub closed : HasNoneOf p stop t → IsSearch p v ch t 0
   closed none = searched_to (omega arith) (λ i e bid low lt log. absurd (none i e bid lt log))
 

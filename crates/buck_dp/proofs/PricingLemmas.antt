@@ -2,7 +2,8 @@
 use Rattle.buck_apt.specs.Instruction.{classes_of}
 use Rattle.buck_dp.proofs.Words.{whole_steps, ◌↔◌, Contains-get_or, mul-div_left, quote_bid, quote_at, IsOfferOf, ◌≡◌, ℕ, ◌+◌, ◌-◌, ◌/◌, ◌%◌, ◌<◌, ◌≤◌, ◌⊎◌, inl, inr, suc, List, [], ◌∷◌, ◌++◌, Contains, length, get_or, slice_get, Some}
 use Rattle.buck_dp.proofs.Words.{refl, sym, subst, ap, ◌∙◌, arith, cases_lt, unwrap_or, nat_le, nat_tests, same_Some, All-contains, AssortmentParts, InstructionParts, sum_by-le, IsInstruction, IsAssortment, IsWithin, classes, sheet_of}
-use Rattle.buck_dp.proofs.Words.{price-le, mul-le-mul, last_position, row_at, Offer, offer_of, offer_at, HIGHEST_RANK, AreOffers, IsBand, IsBought, IsPriced, IsClassAt, HasNoPrice, point_after, Term, Ask, IsTaker, IsTerm, AreTerms}
+use Rattle.buck_dp.proofs.Words.{price-le, mul-le-mul, last_position, row_at, Offer, offer_of, offer_at, HIGHEST_RANK, AreOffers, IsBand, IsBought, IsPriced, IsClassAt, HasNoPrice, point_after, Term, IsTaker, IsTerm, AreTerms}
+use Rattle.buck_dp.specs.declared.pricing.Band.{Band}
 use Rattle.buck_dp.proofs.Words.{nat_cmp, false, ◌*◌, All, length-append, get_or_default, slice_get_within, IsNoLater, IsPermutation, IsSorted, All-weaker, All-push, Contains-push, Contains-append_left, Ordering}
 use Rattle.buck_dp.proofs.ListLemmas.{on_module, has_at}
 use Rattle.buck_dp.proofs.Logs.{one_step}
@@ -12,7 +13,7 @@ use Rattle.std.specs.Cmp.{ranks}
 use Rattle.std.proofs.lemmas.Cmp.{nat_cmp_total, on_total, then_total}
 use Rattle.std.proofs.lemmas.List.Sorted.{Contains-permutation, All-permutation, length_permutation, sorted_far, ranks_by}
 
--- where no limit lies between two diameters, the last that is at most each is the same
+-- if no limit lies between two diameters, the last that is at most each is the same
 same_last : (xs : List ℕ) (low d past : ℕ) → low ≤ d → d < past → ((l : ℕ) → Contains xs l → (l ≤ low) ⊎ (past ≤ l))
     → last_position (λ l. nat_le l d) xs ≡ last_position (λ l. nat_le l low) xs
 same_last [] low d past from lt apart = refl
@@ -56,8 +57,8 @@ classes_few i valid = omega (
   valid.assortments_number,
 )
 
-module _ {i : InstructionParts} {offers : List Offer} {ask : Ask} {place : ℕ} {terms : List Term}
-    (are : AreOffers i offers) (lt : place < length offers) (were : AreTerms i offers ask place terms) where
+module _ {i : InstructionParts} {offers : List Offer} {band : Band} {place : ℕ} {terms : List Term}
+    (are : AreOffers i offers) (lt : place < length offers) (were : AreTerms i offers band place terms) where
   abbrev o : Offer
   o = get_or offers place (offer_of 0 0)
 
@@ -66,24 +67,25 @@ module _ {i : InstructionParts} {offers : List Offer} {ask : Ask} {place : ℕ} 
   own rank sum = ap (λ n. get_or offers n (offer_of 0 0)) (omega arith)
 
   -- nobody bids for its logs: the terms stay
-  pub none_put : (x : AssortmentParts) → slice_get i.assortments o.assortment ≡ Some x → HasNoPrice x o ask
-      → AreTerms i offers ask (place + 1) terms
+  pub none_put : (x : AssortmentParts) → slice_get i.assortments o.assortment ≡ Some x → HasNoPrice x o band
+      → AreTerms i offers band (place + 1) terms
   none_put x exists none = record {
     real = were.real;
-    met = λ version prices valid steps trim d bid asked past b. elim (cases_lt HIGHEST_RANK (bid.rank + place)) [
-      | inl before ↦ were.met version prices valid steps trim d bid asked before b
+    met = λ version prices valid takers steps trim d bid asked past b. elim (cases_lt HIGHEST_RANK (bid.rank + place)) [
+      | inl before ↦ were.met version prices valid takers steps trim d bid asked before b
       | inr now ↦
           let e = own bid.rank (omega arith) in
           let same = same_Some b.assortment x (rw e at (sym b.exists) ∙ exists) in
-          absurd (none d asked (rw e at b.taker) (rw (e, same) at b.priced))
+          absurd (none d asked (rw (e, same) at b.priced))
     ];
   }
 
   -- its term is put behind the others
   module _ (x : AssortmentParts) (exists : slice_get i.assortments o.assortment ≡ Some x)
-      (k : ℕ) (is : IsClassAt i x o ask k) where
+      (few : o.assortment < 16) (k : ℕ) (is : IsClassAt i x o band k) where
     abbrev term : Term
     term = record {
+      assortment = o.assortment;
       kind = x.price_kind;
       class = k;
       rank = HIGHEST_RANK - place;
@@ -93,10 +95,11 @@ module _ {i : InstructionParts} {offers : List Offer} {ask : Ask} {place : ℕ} 
       rise = point_after i.«module» x.trim;
     }
 
-    term_is : IsTerm i offers ask term
+    term_is : IsTerm i offers band term
     term_is = record {
       class = is.within;
-      quote = λ version prices valid.
+      few = few;
+      quote = λ version prices valid takers taker.
           let real = offer_real are lt in
           let offered = rw (same_Some real.0 x (sym real.1 ∙ exists)) at real.2 in
           let on : o.length % i.«module» ≡ 0 = on_module i o.assortment x o.length valid.valid exists offered in
@@ -109,7 +112,7 @@ module _ {i : InstructionParts} {offers : List Offer} {ask : Ask} {place : ℕ} 
             rise = refl;
             bids = λ d asked. record {
               rank = (omega arith, omega (arith, are.few));
-              taker = subst (λ (b : Offer). IsTaker ask.takers b.assortment) (sym e) is.taker;
+              taker = subst (λ (b : Offer). IsTaker takers b.assortment) (sym e) taker;
               assortment = x;
               exists = rw e exists;
               priced = subst (λ (b : Offer). IsPriced x b d) (sym e) (is.priced d asked);
@@ -121,25 +124,27 @@ module _ {i : InstructionParts} {offers : List Offer} {ask : Ask} {place : ℕ} 
           };
     }
 
-    pub term_put : AreTerms i offers ask (place + 1) (terms ++ term ∷ [])
+    pub term_put : AreTerms i offers band (place + 1) (terms ++ term ∷ [])
     term_put = record {
-      real = All-push (λ t. IsTerm i offers ask t) terms term were.real term_is;
-      met = λ version prices valid steps trim d bid asked past b. elim (cases_lt HIGHEST_RANK (bid.rank + place)) [
-        | inl before ↦
-            let m = were.met version prices valid steps trim d bid asked before b in
-            (m.0, Contains-append_left terms (term ∷ []) m.0 m.1, m.2, m.3, m.4)
-        | inr now ↦
-            let e = own bid.rank (omega arith) in
-            let same = same_Some b.assortment x (rw e at (sym b.exists) ∙ exists) in (
-              term,
-              Contains-push terms term,
-              ap (λ n. n / i.«module») (rw e at b.length)
-                  ∙ mul-div_left steps (omega (arith, valid.valid.module_range)),
-              rw same at b.own,
-              same_bid (quote_bid (quote_at prices term) d) bid
-                  (sym (b.worth ∙ rw (e, same, is.index d asked) refl)) (omega arith),
-            )
-      ];
+      real = All-push (λ t. IsTerm i offers band t) terms term were.real term_is;
+      met = λ version prices valid takers steps trim d bid asked past b. elim
+          (cases_lt HIGHEST_RANK (bid.rank + place)) [
+            | inl before ↦
+                let m = were.met version prices valid takers steps trim d bid asked before b in
+                (m.0, Contains-append_left terms (term ∷ []) m.0 m.1, m.2, m.3, m.4, m.5)
+            | inr now ↦
+                let e = own bid.rank (omega arith) in
+                let same = same_Some b.assortment x (rw e at (sym b.exists) ∙ exists) in (
+                  term,
+                  Contains-push terms term,
+                  rw e at b.taker,
+                  ap (λ n. n / i.«module») (rw e at b.length)
+                      ∙ mul-div_left steps (omega (arith, valid.valid.module_range)),
+                  rw same at b.own,
+                  same_bid (quote_bid (quote_at prices term) d) bid
+                      (sym (b.worth ∙ rw (e, same, is.index d asked) refl)) (omega arith),
+                )
+          ];
     }
 
 -- a list has the offers of the first n assortments, and of the next one those of its first k lengths

@@ -1,5 +1,7 @@
 -- Price lists that grow, and rows drawn from them.
-use Rattle.buck_dp.proofs.Words.{slice_get-get_or, IsCovered, get_or, rules, ℕ, ◌+◌, ◌*◌, ◌<◌, ◌≤◌, ◌⊎◌, inl, inr, List, [], ◌∷◌, ◌++◌, All, Contains, length, length-map, get_or-map, map, refl, subst, ap, ◌∙◌, arith, ne_eqb}
+use Rattle.buck_value.specs.Volume.{worth_at}
+use Rattle.std.proofs.Common.{nat_eq, true, false, if◌then◌else◌}
+use Rattle.buck_dp.proofs.Words.{IsAtMost, IsTied, IsTaker, cases_lt, sym, slice_get-get_or, IsCovered, get_or, rules, ℕ, ◌+◌, ◌*◌, ◌<◌, ◌≤◌, ◌⊎◌, inl, inr, List, [], ◌∷◌, ◌++◌, All, Contains, length, length-map, get_or-map, map, refl, subst, ap, ◌∙◌, arith, ne_eqb}
 use Rattle.buck_dp.proofs.Words.{Term, le_of_mul-le-mul_right, mul-le-mul, mul-le-mul_left, mul-le-mul_right, div-mul-le_self, All-map, All-contains, Contains-get_or, volume, SheetParts, IsSheet, Offer, Quote, Ask, quote_bid, quote_at, IsAsked}
 use Rattle.buck_dp.proofs.Words.{IsSmall, IsQuote, IsLed, IsLeading, IsNext, IsPruned, IsTerm, AreTerms, AreQuotes, cell_of, row_of, IsCell, IsRow, Menu, PriceList, IsMenu, Contains-push, Contains-push_cases, Contains-append_left}
 use Rattle.buck_dp.proofs.ListLemmas.{more_at, place_of}
@@ -18,9 +20,37 @@ outbid d price l other k thick less =
     omega arith
 
 -- what is outbid is worth less
-led_less : (ask : Ask) (p q : Quote) (d : ℕ) → IsAsked ask d → IsLeading ask p → IsLed p q
+led_less : (ask : Ask) (p q : Quote) (d : ℕ) → IsAsked ask.band d → IsLeading ask p → IsLed p q
     → (quote_bid q d).worth < (quote_bid p d).worth
 led_less ask p q d asked leads led = search (rules, outbid, ne_eqb)
+
+-- what ties with a quote bids no more
+tied_at_most : (p q : Quote) (d : ℕ) → IsTied p q → IsAtMost (quote_bid q d) (quote_bid p d)
+tied_at_most p q d tied =
+    let worth : ℕ → ℕ = λ price. worth_at q.term.kind price (volume d q.term.length) in
+    let less : worth q.price ≤ worth p.price = elim (nat_eq q.term.kind 1) as (λ b.
+    (if b then q.price * volume d q.term.length else q.price * 1000000)
+    ≤ (if b then p.price * volume d q.term.length else p.price * 1000000)) [
+      | true ↦ mul-le-mul_right (volume d q.term.length) tied.price
+      | false ↦ mul-le-mul_right 1000000 tied.price
+    ] in
+    rw (tied.length, tied.kind) (elim (cases_lt (worth q.price) (worth p.price)) [
+      | inl lt ↦ inl lt
+      | inr ge ↦ inr (omega (arith, less, ge), omega (arith, tied.rank))
+    ])
+
+-- what outbids a quote outbids all that tie with it
+led_tied : (q p x : Quote) → IsLed q p → IsTied p x → IsLed q x
+led_tied q p x led tied =
+    let price : x.price * p.term.length ≤ p.price * p.term.length = mul-le-mul_right p.term.length tied.price in
+    record {
+      trim = omega (arith, led.trim, tied.trim);
+      steps = omega (arith, led.steps, tied.steps);
+      less = elim led.less [
+        | inl l ↦ inl (l.0, sym tied.kind ∙ l.1, rw (← tied.length) (omega (arith, l.2, price)))
+        | inr l ↦ inr (l.0, λ is. l.1 (tied.kind ∙ is), omega (arith, l.2, tied.price))
+      ];
+    }
 
 -- a quote is put behind a list, of which only what it outbids was dropped
 pub put_behind : (ask : Ask) (old list : List Quote) (q : Quote) → ((x : Quote) → Contains list x → Contains old x)
@@ -30,23 +60,33 @@ put_behind ask old list q real rest = record {
   real = λ x has. elim (Contains-push_cases list q x has) [ inl was ↦ inl (real x was) | inr new ↦ inr new ];
   met = λ x c. elim (rest c.0 c.1) [
     | inl has ↦ (c.0, Contains-append_left list (q ∷ []) c.0 has, c.2)
-    | inr led ↦ (q, Contains-push list q, grind (arith, c.2, led))
+    | inr led ↦ (q, Contains-push list q, grind (arith, c.2, led, led_tied))
   ];
   own = (q, Contains-push list q, inl refl);
 }
 
--- a list is pruned still with the quote of a term more
-pub pruned_on : {ask : Ask} {prices : List ℕ} {terms : List Term} {list new : List Quote} {n : ℕ} (d : Term)
-    → n < length terms → IsNext ask (quote_at prices (get_or terms n d)) list new → IsPruned ask prices terms n list
-    → IsPruned ask prices terms (n + 1) new
-pruned_on {ask} {prices} {terms} {new = new} {n} d lt next was = record {
-  real = λ q has. elim (next.real q has) [
-    | inl old ↦ was.real q old
-    | inr same ↦ (get_or terms n d, Contains-get_or terms n d lt, same)
-  ];
-  met = more_at (λ k t. IsCovered ask new (quote_at prices t)) terms n (get_or terms n d)
-      (slice_get-get_or terms n d lt) (λ k t before at. next.met _ (was.met k t before at)) next.own;
-}
+module _ {ask : Ask} {prices : List ℕ} {terms : List Term} {list : List Quote} {n : ℕ} (d : Term)
+    (lt : n < length terms) (was : IsPruned ask prices terms n list) where
+  -- a list stays pruned if the next term is no taker's
+  pub pruned_past : (IsTaker ask.takers (get_or terms n d).assortment → ⊥) → IsPruned ask prices terms (n + 1) list
+  pruned_past none = record {
+    real = was.real;
+    met = more_at (λ k t. IsTaker ask.takers t.assortment → IsCovered ask list (quote_at prices t)) terms n
+        (get_or terms n d) (slice_get-get_or terms n d lt) was.met (λ taker. absurd (none taker));
+  }
+
+  -- and with the quote of one that is
+  pub pruned_on : {new : List Quote} → IsTaker ask.takers (get_or terms n d).assortment
+      → IsNext ask (quote_at prices (get_or terms n d)) list new → IsPruned ask prices terms (n + 1) new
+  pruned_on {new} taker next = record {
+    real = λ q has. elim (next.real q has) [
+      | inl old ↦ was.real q old
+      | inr same ↦ (get_or terms n d, Contains-get_or terms n d lt, taker, same)
+    ];
+    met = more_at (λ k t. IsTaker ask.takers t.assortment → IsCovered ask new (quote_at prices t)) terms n
+        (get_or terms n d) (slice_get-get_or terms n d lt)
+        (λ k t before at takes. next.met _ (was.met k t before at takes)) (λ takes. next.own);
+  }
 
 -- what is in a list of what is made of others is made of one of these
 pub Contains-map : {X Y : Type 0} (f : X → Y) (xs : List X) (x : X) → Contains xs x → Contains (map f xs) (f x)
@@ -55,32 +95,43 @@ Contains-map f xs x has =
 
 -- a pruned list of all terms at their prices is a price list
 pub list_right : {s : SheetParts} {offers : List Offer} {ask : Ask} {n : ℕ} {terms : List Term} {list : List Quote}
-    → IsSheet s → AreTerms s.instruction offers ask (length offers) terms → IsPruned ask s.prices terms n list → length terms ≤ n
+    → IsSheet s → AreTerms s.instruction offers ask.band (length offers) terms → IsPruned ask s.prices terms n list
+    → length terms ≤ n
     → AreQuotes s offers ask list
 list_right {s} {offers} {ask} {terms = terms} {list} valid are pruned all =
-    let right : (t : Term) → Contains terms t → IsQuote s offers ask (quote_at s.prices t) =
-    λ t has.
-    (All-contains (λ t. IsTerm s.instruction offers ask t) terms t are.real has).quote s.version s.prices valid in
+    let right : (t : Term) → Contains terms t → IsTerm s.instruction offers ask.band t =
+    λ t has. All-contains (λ t. IsTerm s.instruction offers ask.band t) terms t are.real has in
     record {
       real = λ k q lt.
           let r = pruned.real _ (Contains-get_or list k q lt) in
-          subst (λ x. IsQuote s offers ask x) r.2 (right r.0 r.1);
+          subst (λ x. IsQuote s offers ask.takers ask.band x) r.3
+          ((right r.0 r.1).quote s.version s.prices valid ask.takers r.2);
       met = λ steps trim d bid asked b.
-          let m = are.met s.version s.prices valid steps trim d bid asked (omega (arith, b.rank)) b in
+          let m = are.met s.version s.prices valid ask.takers steps trim d bid asked (omega (arith, b.rank)) b in
           let q : Quote = quote_at s.prices m.0 in
-          let p = pruned.met m.1.0 m.0 (omega (arith, m.1.1, all)) (place_of terms m.0 m.1) in (
+          let p = pruned.met m.1.0 m.0 (omega (arith, m.1.1, all)) (place_of terms m.0 m.1) m.2 in (
             p.0,
             p.1,
-            grind (arith, p.2, m.2, m.4, led_less ask p.0 q d asked, worth_at_most, IsAtMost-refl),
-            grind (arith, p.2, m.3),
+            grind (
+              arith,
+              p.2,
+              m.3,
+              m.5,
+              led_less ask p.0 q d asked,
+              tied_at_most p.0 q d,
+              worth_at_most,
+              IsAtMost-refl,
+            ),
+            grind (arith, p.2, m.4),
           );
     }
 
 module _ (s : SheetParts) (m : Menu) (l : PriceList Quote) (d : ℕ) (valid : IsSheet s) (menu : IsMenu s.instruction m)
     (quotes : AreQuotes s m.offers.items l.ask l.list.items)
-    (asked : IsAsked l.ask d) where
+    (asked : IsAsked l.ask.band d) where
   -- no quote is for longer logs than the menu has
-  short_one : (q : Quote) → IsQuote s m.offers.items l.ask q → IsSmall q × (q.term.steps ≤ m.most_steps)
+  short_one : (q : Quote) → IsQuote s m.offers.items l.ask.takers l.ask.band q
+      → IsSmall q × (q.term.steps ≤ m.most_steps)
   short_one q is =
       let b = is.bids d asked in
       let long : q.term.steps * s.instruction.«module» ≤ m.most_steps * s.instruction.«module» =

@@ -8,7 +8,7 @@ use Rattle.buck_dp.proofs.Logs.{point_within, row_part}
 use Rattle.buck_stem.specs.points.Profile as grid
 
 module _ {p : GroundParts} {values : List BidParts} {choices : List ℕ} where
-  -- a search is told by an equal top
+  -- a search to a top is one to an equal top
   pub at_top : {m n : ℕ} → m ≡ n → IsSearch p values choices m 0 → IsSearch p values choices n 0
   at_top same was = subst (λ n. IsSearch p values choices n 0) same was
 
@@ -62,7 +62,7 @@ module _ {p : GroundParts} {x : Site} (is_site : IsSite p x) where
       → (t * p.sheet.instruction.«module» ≤ stem_length p.stem.samples) × (t ≤ 4000)
   point_reached t lt = search (rules, point_within, mul-le-mul_left)
 
-  -- where nobody takes the wood of a part, no log starts there or before
+  -- if nobody takes the wood of a part, no log starts there or before
   none_there : {t stop : ℕ} {part : Part} → IsPartTo p t stop part → ((a : ℕ) → IsTaker part.group.takers a → ⊥)
       → HasNoneOf p stop t
   unfolding log_at
@@ -92,7 +92,7 @@ module _ {p : GroundParts} {x : Site} (is_site : IsSite p x) where
     | inr from ↦ none_near (omega arith) log
   ]
 
-  -- all logs with a top start in the nearest part, where that is the only one, or the others are too far
+  -- all logs with a top start in the nearest part, if that is the only one, or the others are too far
   pub near_run : (t : ℕ) (near : Part) (parts : List Part) → AreParts p t t parts → near ≡ get_or parts 0 near
       → 0 < length parts → t < x.fit → (length parts ≡ 1) ⊎ (near.first + p.menu.most_steps ≤ t)
       → IsNearest p x near t
@@ -122,7 +122,7 @@ module _ {p : GroundParts} {x : Site} (is_site : IsSite p x) where
       done = λ k c none. absurd (omega (arith, none));
     }
 
-    -- so for the nearest part, where each trim fits
+    -- so for the nearest part, if each trim fits
     pub near_open : {near : Part} → IsSearch p values choices t t → IsNearest p x near t
         → IsRow p.sheet p.menu.offers.items near.group.takers (slice_index ds t)
         p.menu.most_steps row
@@ -202,19 +202,19 @@ module _ {p : GroundParts} {x : Site} (is_site : IsSite p x) where
             );
       }
 
-      -- they are all, where no log starts before them
+      -- they are all, if no log starts before them
       all_found : ((t s : ℕ) → first + 1 ≤ t → t < past → IsStop (first + 1) t stop s → HasNoneOf p s t)
           → HaveParts p (first + 1) past parts
       all_found none t low high =
           let f = found.each t low high in
           rw append-nil at (f.2 [] (none t f.0 low high f.1))
 
-      -- so where nobody takes the wood of the next part
+      -- likewise if nobody takes the wood of the next part
       pub empty_found : {part : Part} → IsPartTo p (past - 1) stop part
           → ((a : ℕ) → IsTaker part.group.takers a → ⊥) → HaveParts p (first + 1) past parts
       empty_found here none =
           all_found (λ t s low high which. none_there (part_on t stop s low high found.within which here) none)
 
-      -- and where the next is too far away
+      -- and if the next is too far away
       pub far_found : stop ≤ first + 1 - p.menu.most_steps → HaveParts p (first + 1) past parts
       far_found far = all_found (λ t s low high which. none_far t s (grind (arith, which)))

@@ -12,7 +12,7 @@ IsAtMost-trans a b c p q = grind arith
 pub worth_at_most : (a b : BidParts) → IsAtMost a b → a.worth ≤ b.worth
 worth_at_most a b p = grind arith
 
--- a bid that is at most another is so too with what follows, where this is worth no more
+-- a bid that is at most another is so too with what follows, if this is worth no more
 pub plus_more : (a b c d : BidParts) → IsAtMost a b → c.worth ≤ d.worth → IsAtMost (plus a c) (plus b d)
 plus_more a b c d p le = grind arith
 
@@ -29,7 +29,7 @@ pub same_bid : (a b : BidParts) → a.worth ≡ b.worth → a.rank ≡ b.rank �
 same_bid a b w r = search rules
 
 module _ (p : GroundParts) (v w : List BidParts) (t : ℕ) (same : (k : ℕ) → t ≤ k → bid_at w k ≡ bid_at v k) where
-  -- a settled point stays so where nothing changes from there on
+  -- a settled point stays so if nothing changes from there on
   pub settled_same : (ch ci : List ℕ) (k : ℕ) → t ≤ k → get_or ci k 0 ≡ get_or ch k 0
       → IsSettled p v ch k → IsSettled p w ci k
   settled_same ch ci k le choice was = grind (arith, was.even, was.falls, was.each)

@@ -81,7 +81,7 @@ module _ {p : GroundParts} {v : List BidParts} {ch : List ℕ}
             inr (some, elim (rw same at first) [ inl one ↦ inr (one, tied.1) | inr less ↦ inl less ])
       ]
 
-  -- where the choice is 0, the best from a point on is that from the next one on
+  -- if the choice is 0, the best from a point on is that from the next one on
   pub best_skipped : (i : ℕ) (gs : List Log) → get_or ch i 0 ≡ 0 → IsBestAt p v (i + 1) gs → IsBestAt p v i gs
   best_skipped i gs skip b =
       let even : (bid_at v i).worth ≡ (bid_at v (i + 1)).worth = grind arith in
@@ -94,7 +94,7 @@ module _ {p : GroundParts} {v : List BidParts} {ch : List ℕ}
         ];
       }
 
-  -- where a log is chosen, the best from its point on is that log and the best after it
+  -- if a log is chosen, the best from its point on is that log and the best after it
   pub best_begun : {i : ℕ} {g : Log} → g ≡ log_at p (get_or ch i 0) i → 0 < get_or ch i 0
       → IsAllowed p.sheet.instruction p.stem g × (i < next_after p g)
       × ((gs : List Log) → IsBestAt p v (next_after p g) gs → IsBestAt p v i (g ∷ gs))
@@ -123,7 +123,7 @@ module _ {p : GroundParts} {v : List BidParts} {ch : List ℕ}
         },
       )
 
-  -- where logs and the best from a point past the last are the best, the logs are the first of the best cuttings
+  -- if logs and the best from a point past the last are the best, the logs are the first of the best cuttings
   pub best_first : {i : ℕ} {logs : List Log} → ((gs : List Log) → IsBestAt p v i gs → IsBestAt p v 0 (logs ++ gs))
       → ends_of p ≤ i → IsFirstBest p.sheet p.stem logs × ((bid_at v 0).worth ≡ cutting_worth p.sheet p.stem logs)
   best_first {i} {logs} on past =

@@ -1,4 +1,4 @@
--- Cuttings as if no assortment had a trim allowance, for the law that nothing else changes where each trim is 0. No
+-- Cuttings as if no assortment had a trim allowance, for the law that nothing else changes if each trim is 0. No
 -- other contract leads here.
 use Rattle.std.specs.Prelude.{List}
 use Rattle.buck_value.specs.declared.log.Log.{Log}

@@ -11,7 +11,7 @@ pub const HIGHEST_RANK: u32 = 1023;
 /// Number of ranks. A rank is the last digit of a bid's number, to this base.
 const RANKS: u64 = HIGHEST_RANK as u64 + 1;
 
-/// What a log brings: its worth in millionths of the price unit, and its rank among the logs that start where it does,
+/// The bid of a log: its worth in millionths of the price unit, and its rank among the logs that start where it does,
 /// which settles ties. One number holds both, so that one comparison settles the worth and then the rank.
 #[derive(Clone, Copy, Debug)]
 pub struct Bid {

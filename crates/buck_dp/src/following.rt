@@ -32,7 +32,7 @@ fn log_at(market: &Market, rank: u32, i: usize) -> Log
 }
 
 /// The first of the best cuttings of a stem that is searched down to the butt, and its worth: a choice is the rank of
-/// the log that starts at its point, 0 where none does.
+/// the log that starts at its point, 0 if none does.
 pub(crate) fn follow(
     alloc: Global,
     site: Site<'_>,

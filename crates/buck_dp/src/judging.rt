@@ -7,7 +7,7 @@ use crate::ends::end_of;
 use buck_stem::Stem;
 use buck_value::{Sheet, worth_if_allowed};
 
-/// The worth of a cutting under a sheet, in millionths of the price unit, where it is admissible, and `None` where it
+/// The worth of a cutting under a sheet, in millionths of the price unit, if it is admissible, and `None` if it
 /// isn't; see [`admissible`] and [`worth`]. Any logs may be asked of. It takes no memory.
 #[tactic(auto, using(buck_value::proofs::Rates::worth_low))]
 pub fn worth_if_admissible(sheet: &Sheet, stem: &Stem, cutting: &Cutting) -> Option<u64>

@@ -37,7 +37,7 @@ pub fn first_of_the_best_is_one()
         → IsFirstBest sheet stem those → these ≡ those }
 {}
 
-/// Where no assortment has a trim, the cuttings that are admissible are those that would be without any trim.
+/// If no assortment has a trim, the cuttings that are admissible are those that would be without any trim.
 #[tactic(auto, using(crate::proofs::Lists::cut_same))]
 pub fn no_trim_admits_the_same()
     ensures { (sheet : SheetParts) (stem : StemParts) (logs : List Log) → HasNoTrim sheet.instruction

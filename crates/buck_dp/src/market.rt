@@ -2,6 +2,7 @@
 ghost use Rattle.std.specs.Prelude.{◌≡◌, ℕ, ◌+◌, ◌≤◌, IfOk, IfSome, drop, length, slice_get, take, Some};
 ghost use Rattle.buck_value.specs.Sheet.{IsSheet};
 ghost use Rattle.buck_dp.specs.inner.Logs.{AreTakersOf};
+ghost use Rattle.buck_dp.specs.declared.takers.Takers.{Takers};
 ghost use Rattle.buck_dp.specs.inner.Market.{IsMarket, HasSame, IsRowOf, IsListAt};
 
 use crate::offering::{Cell, put_row};
@@ -16,8 +17,11 @@ use std::alloc::{AllocError, Global};
 use std::marker::Model;
 use std::sync::Arc;
 
-/// Number of terms in all price lists above which these are dropped: 0.9 MB with their quotes.
-const TERMS: usize = 16_384;
+/// Number of terms in all lists above which these are dropped: 6.2 MB, the lists of 504 bands of 512 offers.
+const TERMS: usize = 258_048;
+
+/// Number of quotes in all lists above which these are dropped: 0.5 MB.
+const QUOTES: usize = 16_384;
 
 /// Number of cells above which all rows are dropped: 1.5 MB.
 const CELLS: usize = 36_352;
@@ -43,7 +47,7 @@ pub struct Head {
     pub number: usize,
 }
 
-/// A price list of some takers in a band: their quotes under a sheet, or their terms.
+/// A price list in a band: the quotes of some takers under a sheet, or the terms of every assortment.
 #[derive(Drop)]
 pub struct PriceList<T> {
     pub ask: Ask,
@@ -51,14 +55,16 @@ pub struct PriceList<T> {
 }
 
 /// A sheet, what its instruction offers, and what was found of that so far: who takes which kinds of wood, how logs are
-/// priced, which hangs on the instruction alone, the quotes of that, the cells of the rows, and where each row stands.
-/// Notes tell where that is told, by a slot for each set of takers and diameter. They are only hints, and need not be
+/// priced, which depends on the instruction alone, the quotes of that, the cells of the rows, and the place of each
+/// row. Notes give that place by a slot for each set of takers and diameter. They are only hints, and need not be
 /// dropped with the rows.
 #[derive(Drop)]
 pub struct Market {
     sheet: Arc<Sheet>,
     menu: Menu,
     kinds: Vec<Known>,
+    // Apart from the quotes, because a new sheet changes prices alone, and one list for all takers of a band. Terms of
+    // each set of takers are a tenth cheaper after a new sheet at 100 mm, but twice as dear through 500 bands.
     terms: Vec<PriceList<Term>>,
     quotes: Vec<PriceList<Quote>>,
     cells: Vec<Cell>,
@@ -118,17 +124,18 @@ impl Market {
         &self.sheet
     }
 
-    /// What its instruction offers.
+    /// The logs that its instruction offers.
     pub fn menu(&self) -> &Menu
         ensures { result.now ≡ self.now.menu }
     {
         &self.menu
     }
 
-    /// Drops all that was found where too many kinds of wood were met.
+    /// Drops all that was found if too many kinds of wood were met.
     pub fn clear_if_worn(&mut self)
         ensures { HasSame self.old self.new }
     {
+        // A kind may take 12 kB of notes, and each question about wood goes through all kinds that were met.
         if self.kinds.len() >= KINDS {
             self.kinds.clear();
             self.terms.clear();
@@ -138,25 +145,28 @@ impl Market {
         }
     }
 
-    /// Takes another sheet of the same instruction, and drops what hangs on prices.
+    /// Takes another sheet of the same instruction, and drops what depends on prices.
     pub fn renew(&mut self, sheet: Arc<Sheet>)
         requires valid { IsSheet sheet.value }
         requires same { sheet.value.instruction ≡ self.old.sheet.instruction }
         ensures { self.new.sheet ≡ sheet.value }
     {
+        // The notes stay. An index that had to be right would be dropped with the heads, and proved.
         self.quotes.clear();
         self.cells.clear();
         self.heads.clear();
         self.sheet = sheet;
     }
 
-    /// Drops the price lists where they have too many terms, so many each, and the rows where there are too many.
+    /// Drops price lists if there are too many, of a term or a quote for each offer, and rows if there are too many.
     fn clear_if_full(&mut self)
         ensures { HasSame self.old self.new }
     {
         // Every menu has an offer; no clause says so, and the division wants it.
-        if self.terms.len() > TERMS / self.menu.offers.len().max(1) {
+        let offers = self.menu.offers.len().max(1);
+        if self.terms.len() > TERMS / offers {
             self.terms.clear();
+        } else if self.quotes.len() > QUOTES / offers {
             self.quotes.clear();
         } else if self.cells.len() > CELLS || self.heads.len() > ROWS {
             self.cells.clear();
@@ -164,7 +174,7 @@ impl Market {
         }
     }
 
-    /// The assortments that take wood of a species and of some grades. Refused only where a growth was.
+    /// The assortments that take wood of a species and of some grades. Refused only if an allocation failed.
     pub fn group(&mut self, species: u8, grades: Grades) -> Result<Group, AllocError>
         ensures same { HasSame self.old self.new }
         ensures takers { IfOk result (λ g. AreTakersOf self.old.sheet.instruction species grades g.takers) }
@@ -172,25 +182,26 @@ impl Market {
         group_of(&mut self.kinds, &self.sheet, species, grades)
     }
 
-    /// Where the terms of some takers for a diameter stand. They are found first where they aren't there.
-    fn terms_at(&mut self, alloc: Global, takers: Takers, diameter: u32) -> Result<usize, Memory>
+    /// Where the terms for a diameter stand. They are found first if they aren't there yet.
+    fn terms_at(&mut self, alloc: Global, diameter: u32) -> Result<usize, Memory>
         requires { diameter ≤ 1500 }
         ensures same { HasSame self.old self.new }
-        ensures place { IfOk result (IsListAt self.new.terms takers diameter) }
+        ensures place { IfOk result (λ n. (takers : Takers) × IsListAt self.new.terms takers diameter n) }
     {
+        let takers = Takers::every();
         if let Some(place) = find_list(self.terms.as_slice(), takers, diameter) {
             return Ok(place);
         }
         let instruction: &Instruction = self.sheet.instruction();
         let band = band_around(instruction, diameter);
         let ask = Ask { takers, band };
-        let list = terms_of(alloc, instruction, self.menu.offers.as_slice(), ask)?;
+        let list = terms_of(alloc, instruction, self.menu.offers.as_slice(), band)?;
         let place = self.terms.len();
         self.terms.push(PriceList { ask, list })?;
         Ok(place)
     }
 
-    /// Where the quotes of some takers for a diameter stand. They are made first where they aren't there.
+    /// Where the quotes of some takers for a diameter stand. They are made first if they aren't there yet.
     fn quotes_at(&mut self, alloc: Global, takers: Takers, diameter: u32) -> Result<usize, Memory>
         requires { diameter ≤ 1500 }
         ensures same { HasSame self.old self.new }
@@ -199,9 +210,12 @@ impl Market {
         if let Some(place) = find_list(self.quotes.as_slice(), takers, diameter) {
             return Ok(place);
         }
-        let at = self.terms_at(alloc, takers, diameter)?;
+        let at = self.terms_at(alloc, diameter)?;
         let terms = &self.terms[at];
-        let ask = terms.ask;
+        let ask = Ask {
+            takers,
+            band: terms.ask.band,
+        };
         let mut list = Vec::with_capacity(alloc, terms.list.len())?;
         put_list(&mut list, &self.sheet, terms.list.as_slice(), ask)?;
         let place = self.quotes.len();
@@ -229,7 +243,7 @@ impl Market {
         if slot >= notes.len() {
             notes.resize(slot + 1, 0)?;
         }
-        // Where memory runs out below, the note names no head or another row's: `find` looks at whose row it is.
+        // If memory runs out below, the note names no head or another row's: `find` looks at whose row it is.
         notes[slot] = self.heads.len();
         // Room for the head first, so that no cells are left without one.
         self.heads.reserve(1)?;

@@ -37,6 +37,7 @@ fn cell_at(quote: Quote, diameter: u32, far: usize) -> Cell
     requires far { (quote.term.steps ≤ far) × (far ≤ 4294967295) }
     ensures { result ≡ cell_of far diameter quote }
 {
+    // A cell of 40 bytes instead of 24, for an inner loop of 11 instructions instead of 15.
     Cell {
         bid: quote.bid(diameter),
         steps: quote.term.steps,
@@ -151,6 +152,8 @@ pub fn offer_some(values: &mut [Bid], top: usize, starts: Range<usize>, room: u3
 {
     let most = top - starts.start;
     let past = top - starts.end;
+    // Rows aren't sorted: an order that ended this loop at the first cell too long would save some five per cent, and
+    // need a proof of its own.
     for cell in row {
         let steps = cell.steps as usize;
         if steps <= most && steps > past && cell.trim <= room {

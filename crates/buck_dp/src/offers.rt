@@ -15,7 +15,7 @@ pub struct Offer {
     pub assortment: u8,
 }
 
-/// The logs that an instruction offers: each length of each assortment, in order. Refused only where a growth was.
+/// The logs that an instruction offers: each length of each assortment, in order. Refused only if an allocation failed.
 pub fn offers_of(alloc: Global, instruction: &Instruction) -> Result<Vec<Offer>, AllocError>
     ensures { IfOk result (λ offers. AreOffers instruction.now offers.items) }
 {
@@ -33,7 +33,7 @@ pub fn offers_of(alloc: Global, instruction: &Instruction) -> Result<Vec<Offer>,
     Ok(offers)
 }
 
-/// What an instruction offers: its logs, in the tie order, and how far they reach.
+/// The logs that an instruction offers, in the tie order, and how far they reach.
 #[derive(Drop)]
 pub struct Menu {
     pub offers: Vec<Offer>,
@@ -62,7 +62,7 @@ fn steps_of(instruction: &Instruction, offers: &[Offer]) -> (usize, usize)
 }
 
 impl Menu {
-    /// The menu of an instruction. Refused only where a growth was.
+    /// The menu of an instruction. Refused only if an allocation failed.
     pub fn of(alloc: Global, instruction: &Instruction) -> Result<Menu, AllocError>
         ensures { IfOk result (IsMenu instruction.now) }
     {

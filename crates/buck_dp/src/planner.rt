@@ -49,6 +49,7 @@ fn cut(alloc: Global, own: &mut Own, stem: &Stem) -> Result<(Cutting, u64), Memo
     search.market.clear_if_worn();
     let sheet = search.market.sheet();
     let fit = fit_of(sheet, stem);
+    // In lists that are kept from stem to stem: new ones would be up to a fifteenth of a plan's cost.
     let profile = Profile::make_in(&mut own.lists, stem, sheet.instruction().module())?;
     let site = Site {
         stem,
@@ -64,8 +65,8 @@ fn cut(alloc: Global, own: &mut Own, stem: &Stem) -> Result<(Cutting, u64), Memo
 ///
 /// The cutting is admissible, no admissible list of logs is worth more, and it comes before every other such one: at
 /// the first difference stands the lower start, then the shorter log, then the lower assortment, and a list that goes
-/// on comes before its own prefix. So a log worth nothing is cut where it is allowed. Where no log is allowed, the
-/// cutting is empty and worth 0. `Memory` where a list couldn't grow: a copy of the prices, the price lists, the values
+/// on comes before its own prefix. So a log worth nothing is cut if it is allowed. If no log is allowed, the
+/// cutting is empty and worth 0. `Memory` if a list couldn't grow: a copy of the prices, the price lists, the values
 /// of the points, and the logs. Stem after stem is planned faster by a [`Planner`](crate::Planner).
 ///
 /// Bucking as a longest path, solved by dynamic programming over the places of a stem: M. Näsberg, "Mathematical
@@ -114,7 +115,7 @@ impl Planner {
     }
 
     /// Plans under another sheet from now on. Refused as `Memory` alone: it then plans under the sheet as before. What
-    /// depends on the instruction alone is kept where both have the same.
+    /// depends on the instruction alone is kept if both have the same.
     pub fn renew(&mut self, alloc: Global, sheet: Arc<Sheet>) -> Result<(), Memory>
         ensures renewed { OnOk result (self.new ≡ sheet.value) }
         ensures left { IfErr result (λ _. self.new ≡ self.old) }

@@ -20,6 +20,7 @@ const MOST_TRIM: u32 = 200;
 /// A stem at its points, the multiples of the module.
 #[derive(Clone, Copy)]
 pub struct Site<'a> {
+    // The sheet isn't here: a search can't lend its own market's sheet while it adds rows to the market.
     pub stem: &'a Stem,
     pub profile: &'a Profile<'a>,
     /// Index of a point, from 0: every trim fits behind each top before it.
@@ -182,8 +183,12 @@ impl Search {
             let room = site.stem.length() - top as u32 * module;
             let mut stop = top;
             for part in parts {
-                // Where even the first start of a part is too near for the shortest log, none starts there.
+                // If even the first start of a part is too near for the shortest log, none starts there. To try each
+                // cell instead takes up to eleven times as long with 100 zones. A row for each part would be up to a
+                // third faster there, but a twentieth slower for other stems.
                 if top - part.first >= least {
+                    // From a row even for the first stem of a sheet: offers straight from a price list would be more
+                    // code.
                     let row = market.row(alloc, part.group, diameters[top])?;
                     offer_some(values, top, part.first..stop, room, market.cells(row));
                 }
@@ -223,7 +228,8 @@ impl Search {
         let nearest = fitting.min(full).max(last);
         let some = nearest.min(least).max(last);
         // From the top down: tops behind which a trim may not fit, tops whose logs all start in the nearest part, tops
-        // whose logs start in several, and tops without logs, which want no parts.
+        // whose logs start in several, and tops without logs, which want no parts. With two stretches `buck` is a fifth
+        // slower at a module of 10 mm, for 190 lines less; with one loop it is slower still.
         self.settle_parts(alloc, site, past, fitting)?;
         self.settle_near(alloc, site, near, fitting, nearest)?;
         self.settle_parts(alloc, site, nearest, some)?;

@@ -2,7 +2,7 @@
 ghost use Rattle.std.specs.Prelude.{◌≡◌, ◌+◌, ◌<◌, ◌≤◌, ◌⊎◌, IfOk, OnOk, IfSome, IfNone, IsTrue, List, Contains, length, slice_get, Some};
 ghost use Rattle.buck_value.specs.Sheet.{IsSheet};
 ghost use Rattle.buck_dp.specs.inner.Offers.{IsBand, IsBandOf, IsOfferOf, AreOffers};
-ghost use Rattle.buck_dp.specs.inner.Quotes.{quote_bid, IsSmall, IsLed, IsLeader, IsNext, IsClassAt, HasNoPrice, AreTerms, AreQuotes};
+ghost use Rattle.buck_dp.specs.inner.Quotes.{quote_bid, IsSmall, IsLed, IsTied, IsLeader, IsNext, IsClassAt, HasNoPrice, AreTerms, AreQuotes};
 ghost use Rattle.buck_dp.specs.declared.offers.Offer.{Offer};
 
 use crate::bid::{Bid, HIGHEST_RANK};
@@ -17,6 +17,8 @@ use std::alloc::{AllocError, Global};
 /// the class in a sheet: per cubic metre or per piece, by the kind.
 #[derive(Clone, Copy, Debug, Default)]
 pub struct Term {
+    /// Index of the assortment in the instruction, from 0.
+    pub assortment: u8,
     /// The price kind: 1 per m³, 2 per piece.
     pub kind: u8,
     /// Index of its price's class among all, from 0.
@@ -74,25 +76,21 @@ fn assortment_of(instruction: &Instruction, offer: Offer) -> &Assortment
     &instruction.assortments()[usize::from(offer.assortment)]
 }
 
-/// The place of the class of an offer's logs, or `None` where their assortment is no taker or has no price for them.
+/// The place of the class of an offer's logs, or `None` if their assortment has no price for them.
 #[tactic(auto, using(buck_value::proofs::Classes::column_none, buck_value::proofs::Classes::column_some))]
 fn class_at(
     instruction: &Instruction,
     assortment: &Assortment,
     offer: Offer,
-    ask: Ask,
+    band: Band,
 ) -> Option<usize>
     requires own { slice_get instruction.now.assortments offer.assortment ≡ Some assortment.now }
-    requires few { offer.assortment < 16 }
-    requires band { IsBand assortment.now ask.band.thinnest ask.band.past }
-    ensures class { IfSome result (IsClassAt instruction.now assortment.now offer ask) }
-    ensures none { IfNone result (HasNoPrice assortment.now offer ask) }
+    requires band { IsBand assortment.now band.thinnest band.past }
+    ensures class { IfSome result (IsClassAt instruction.now assortment.now offer band) }
+    ensures none { IfNone result (HasNoPrice assortment.now offer band) }
 {
-    if !ask.takers.contains(usize::from(offer.assortment)) {
-        return None;
-    }
     let column = column_of(assortment, offer.length)?;
-    let row = bought_row(assortment, column, ask.band.thinnest)?;
+    let row = bought_row(assortment, column, band.thinnest)?;
     Some(instruction.index(Class {
         assortment: offer.assortment,
         row: row as u8,
@@ -100,34 +98,37 @@ fn class_at(
     }))
 }
 
-/// The terms of some takers in a band, in the order of the offers. Refused only where a growth was.
+/// The terms of all assortments in a band, in the order of the offers. Refused only if an allocation failed.
 #[tactic(auto, using(crate::proofs::PricingLemmas::offer_real, crate::proofs::PricingLemmas::classes_few))]
 pub fn terms_of(
     alloc: Global,
     instruction: &Instruction,
     offers: &[Offer],
-    ask: Ask,
+    band: Band,
 ) -> Result<Vec<Term>, AllocError>
     requires offers { AreOffers instruction.now offers.now }
-    requires band { IsBandOf instruction.now ask.band.thinnest ask.band.past }
-    ensures { IfOk result (λ terms. AreTerms instruction.now offers.now ask (length offers.now) terms.items) }
+    requires band { IsBandOf instruction.now band.thinnest band.past }
+    ensures { IfOk result (λ terms. AreTerms instruction.now offers.now band (length offers.now) terms.items) }
 {
     let module = instruction.module();
     let mut terms = Vec::new(alloc);
     for place in 0..offers.len() {
         let offer = offers[place];
         let assortment = assortment_of(instruction, offer);
-        let Some(class) = class_at(instruction, assortment, offer, ask) else {
+        let Some(class) = class_at(instruction, assortment, offer, band) else {
             continue;
         };
         let trim = assortment.trim();
         terms.push(Term {
+            assortment: offer.assortment,
             kind: assortment.price_kind(),
             class: class as u16,
             rank: HIGHEST_RANK - place as u32,
             length: offer.length,
             steps: offer.length / module,
             trim,
+            // To the first point after the trim, which need not be a multiple of the module: so one row has logs of all
+            // trims.
             rise: point_from(module, trim),
         })?;
     }
@@ -151,7 +152,22 @@ fn is_led(leader: Quote, quote: Quote) -> bool
     is_outbid && lead.trim <= term.trim && lead.steps <= term.steps
 }
 
-/// Drops the last of a list where a quote outbids it.
+/// Whether a leader comes before a quote of its price kind in the tie order and bids no less, for logs that are as long
+/// and have no more trim.
+#[inline(always)]
+fn is_tied(leader: Quote, quote: Quote) -> bool
+    ensures { IsTrue result → IsTied leader quote }
+{
+    let (lead, term) = (leader.term, quote.term);
+    lead.length == term.length
+        && lead.steps == term.steps
+        && lead.kind == term.kind
+        && quote.price <= leader.price
+        && term.rank < lead.rank
+        && lead.trim <= term.trim
+}
+
+/// Drops the last of a list if a quote outbids it.
 #[inline(always)]
 fn drop_led(list: &mut Vec<Quote>, quote: &Quote)
     ensures real { (x : Quote) → Contains list.new.items x → Contains list.old.items x }
@@ -164,8 +180,8 @@ fn drop_led(list: &mut Vec<Quote>, quote: &Quote)
     }
 }
 
-/// Puts a quote behind others, unless their leader outbids it. It leads these then, unless it has more trim. Where it
-/// outbids the last, that goes.
+/// Puts a quote behind others, unless their leader outbids it or ties with it. It leads these then, unless it has more
+/// trim. If it outbids the last, that goes.
 #[inline(always)]
 fn put_quote(
     list: &mut Vec<Quote>,
@@ -177,7 +193,12 @@ fn put_quote(
     ensures next { OnOk result (IsNext ask quote list.old.items list.new.items) }
     ensures leads { OnOk result (IsLeader ask list.new.items leader.new) }
 {
+    // One leader for each price kind, so that one comparison of two products decides. To compare across kinds would be
+    // a tenth faster for mixed prices, but need two numbers for each leader; in rows it would find one cell in 7,000.
     if is_led(*leader, quote) {
+        return Ok(());
+    }
+    if is_tied(*leader, quote) {
         return Ok(());
     }
     // Below 36 mm a millimetre of a log may be less than its volume is rounded by, so no quote per cubic metre leads.
@@ -189,8 +210,9 @@ fn put_quote(
     Ok(())
 }
 
-/// Puts a price list in the place of another: the quotes of some terms, without those that one of their price kind
-/// outbids in the whole band whose log is no longer. Refused only where a growth was.
+/// Puts a price list in the place of another: the quotes of those terms that are of takers, without those that one of
+/// their price kind outbids in the whole band, or ties with, whose log is no longer. Refused only if an allocation
+/// failed.
 #[inline(never)]
 pub fn put_list(
     quotes: &mut Vec<Quote>,
@@ -199,8 +221,9 @@ pub fn put_list(
     ask: Ask,
 ) -> Result<(), AllocError>
     requires valid { IsSheet sheet.now }
-    requires terms { (offers : List Offer) × AreTerms sheet.now.instruction offers ask (length offers) terms.now }
-    ensures { OnOk result ((offers : List Offer) → AreTerms sheet.now.instruction offers ask (length offers) terms.now
+    requires terms { (offers : List Offer) × AreTerms sheet.now.instruction offers ask.band (length offers) terms.now }
+    ensures { OnOk result ((offers : List Offer)
+        → AreTerms sheet.now.instruction offers ask.band (length offers) terms.now
         → AreQuotes sheet.now offers ask quotes.new.items) }
 {
     quotes.clear();
@@ -211,6 +234,9 @@ pub fn put_list(
     cubic.term.kind = 1;
     let prices = sheet.prices();
     for term in terms {
+        if !ask.takers.contains(usize::from(term.assortment)) {
+            continue;
+        }
         let quote = Quote {
             term: *term,
             price: prices[term.class as usize],

@@ -4,7 +4,7 @@ ghost use Rattle.buck_dp.specs.inner.Logs.{IsTaker, AreTakersOf, AreKnown};
 
 use buck_apt::Instruction;
 use buck_stem::Grades;
-use buck_value::{Sheet, Wood, takes};
+use buck_value::{Sheet, takes};
 use std::alloc::AllocError;
 
 /// Assortments that take some wood: bit a for the one at place a.
@@ -14,6 +14,11 @@ pub struct Takers {
 }
 
 impl Takers {
+    /// Every assortment.
+    pub fn every() -> Takers {
+        Takers { marks: u16::MAX }
+    }
+
     /// Whether the set is empty.
     pub fn is_empty(self) -> bool
         ensures { IsTrue result → (a : ℕ) → IsTaker self a → ⊥ }
@@ -38,12 +43,7 @@ pub fn takers_of(instruction: &Instruction, species: u8, grades: Grades) -> Take
     let all = instruction.assortments();
     let mut marks = 0;
     for place in 0..all.len() {
-        let wood = Wood {
-            species,
-            grades,
-            trim: all[place].trim(),
-        };
-        if takes(&all[place], wood) {
+        if takes(&all[place], species, grades) {
             marks |= 1 << place;
         }
     }
@@ -67,7 +67,7 @@ pub struct Known {
     pub group: Group,
 }
 
-/// The number of a set of takers among the kinds that were met: the next where none has it.
+/// The number of a set of takers among the kinds that were met: the next if none has it.
 fn number_of(kinds: &[Known], takers: Takers) -> u16 {
     for known in kinds {
         if known.group.takers == takers {
@@ -78,8 +78,8 @@ fn number_of(kinds: &[Known], takers: Takers) -> u16 {
     u16::try_from(kinds.len()).unwrap_or(u16::MAX)
 }
 
-/// The assortments that take wood of a species and of some grades, which are known from then on. Refused only where a
-/// growth was.
+/// The assortments that take wood of a species and of some grades, which are known from then on. Refused only if an
+/// allocation failed.
 pub fn group_of(
     kinds: &mut Vec<Known>,
     sheet: &Sheet,

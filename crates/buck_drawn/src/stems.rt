@@ -53,7 +53,7 @@ impl Pick<'_> {
     }
 }
 
-/// The reasons, one behind the other.
+/// The reasons, one after the other.
 impl fmt::Display for Pick<'_> {
     fn fmt<W: fmt::Write>(&self, f: &mut fmt::Formatter<W>) -> fmt::Result {
         let entry = self.entry;
@@ -130,7 +130,7 @@ fn first_cut(figures: &Figures<'_>) -> Option<usize> {
     first
 }
 
-/// Which stems are drawn: the first, the longest, the one where steering cost most, then each harvester's first.
+/// Which stems are drawn: the first, the longest, the one whose steering cost most, then each harvester's first.
 fn picked<'a>(alloc: Global, figures: &Figures<'a>) -> Result<Vec<Pick<'a>>, Memory> {
     let mut picks = Vec::new(alloc);
     add_pick(&mut picks, figures, first_cut(figures), Reason::First)?;
@@ -500,7 +500,7 @@ fn write_caption(out: &mut String, drawing: &Drawing<'_>) -> Result<(), Memory> 
     Ok(())
 }
 
-/// Writes what stands beside a stem: labels under its logs, and the cutting unsteered, where that is another one.
+/// Writes what stands beside a stem: labels under its logs, and the cutting unsteered, if that is another one.
 fn write_beside(out: &mut String, drawing: &Drawing<'_>) -> Result<(), Memory> {
     let cut = drawing.cut;
     let entry = cut.entry;
@@ -552,14 +552,14 @@ fn write_lead(out: &mut String, figures: &Figures<'_>, drawn: usize) -> Result<(
     write!(
         out,
         "\n<section id=\"stems\"><h2>Stems</h2><p class=\"lead\">{stems} from the side, butt to the left, all to one \
-         scale in metres; thickness is drawn larger. Under each log stand its assortment, length and top diameter. \
-         Grey is wood that no log took."
+         scale in metres; thickness is drawn larger. Below each log are its assortment, length and top diameter. Wood \
+         in grey is in no log."
     )?;
     let left = figures.total.stems.saturating_sub(drawn as u64);
     if left > 0 {
         let more = Several::of(u128::from(left), "stem");
         let are = if left == 1 { "is" } else { "are" };
-        write!(out, " {more} more {are} not drawn.")?;
+        write!(out, " {more} {are} not drawn.")?;
     }
     write!(out, "</p><p class=\"keys\">")?;
     for (at, assortment) in figures.instruction.assortments().iter().enumerate() {

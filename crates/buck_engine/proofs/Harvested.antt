@@ -1,4 +1,4 @@
--- What a fleet has cut that was opened anew, run to the end of all lists, and closed.
+-- What a fleet has cut that was opened, run to the end of all lists, and closed.
 use Rattle.std.proofs.Common.{◌≡◌, ℕ, zero, suc, ◌+◌, ◌-◌, ◌<◌, ◌≤◌, List, [], ◌∷◌, ◌++◌, length, map, take, get_or, refl, sym, ap, subst, ◌∙◌, arith, take_all}
 use Rattle.std.specs.Prelude.{All, Some, None}
 use Rattle.std.specs.List.{sum_by}

@@ -31,7 +31,7 @@ same_place f now old k x lt same =
     let there : get_or now k x ≡ get_or old k x = a ∙ ap (λ (l : List _). get_or l 0 x) same ∙ b in
     ap f there ∙ sym (get_or-map f old k x None lt)
 
--- and of the places after it, where it is replaced
+-- and of the places after it, if it is replaced
 pub same_rest : {A : Type 0} (now old : List A) (k : ℕ) (y : A) → drop k now ≡ drop k old
     → drop (k + 1) (set now k y) ≡ drop (k + 1) old
 same_rest now old k y same = drop-set-lt (k + 1) now k y (omega arith) ∙ drop_more_same now old k same

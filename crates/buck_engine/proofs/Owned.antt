@@ -1,4 +1,4 @@
--- Who a history's postings belong to: where the harvesters 1 to n have all postings between them, nobody else has one.
+-- Who a history's postings belong to: if the harvesters 1 to n have all postings between them, nobody else has one.
 use Rattle.std.proofs.Common.{◌≡◌, ℕ, zero, suc, Bool, true, false, ◌+◌, ◌<◌, ◌≤◌, ◌==◌, ◌⊎◌, inl, inr, cond, List, [], ◌∷◌, length, refl, arith}
 use Rattle.std.proofs.lemmas.Bool.Decides.{nat_tests}
 use Rattle.std.specs.Prelude.{All}
@@ -11,7 +11,7 @@ abbrev pub owned : ℕ → ℕ → List Posting → ℕ
 owned zero p xs = 0
 owned (suc n) p xs = owned n p xs + length (replies_from (suc n) p xs)
 
--- 1 where the posting is one of theirs
+-- 1 if the posting is one of theirs
 abbrev pub one_if : ℕ → Posting → ℕ
 one_if zero x = 0
 one_if (suc n) x = one_if n x + cond (harvester_of x == suc n) 1 0

@@ -79,7 +79,7 @@ kept reads HasText Shown Left apt journal old fault (inr (ok, inr (inr (why, is,
     subst (λ (f : EngineFault). ShowsAs reads HasText Shown Left apt journal old old (Err f)) (sym is)
     (inr (ok, inr (inr (why, refl, says))), Keeps-refl old)
 
--- nothing is written where a file has a fault
+-- nothing is written if a file has a fault
 pub nothing_shown : (reads : ReadsApt) (HasText : HistoryParts → Type 0) (Shown Left : Type 0)
     (apt journal old : Option (List ℕ)) (fault : EngineFault)
     (r : Result (Unit {0}) EngineFault)

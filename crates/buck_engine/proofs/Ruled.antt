@@ -1,4 +1,4 @@
--- Sheets whose prices are a closure's answers, where these are what a rule gives.
+-- Sheets whose prices are a closure's answers, if these are what a rule gives.
 use Rattle.std.proofs.Common.{◌≡◌, ℕ, zero, suc, Bool, false, cond, nat_lt, ◌+◌, ◌*◌, ◌<◌, inl, inr, List, [], ◌∷◌, ◌++◌, length, take, refl, sym, ap, ◌∙◌, arith}
 use Rattle.std.specs.Prelude.{slice_get, slice_index, Some}
 use Rattle.std.proofs.lemmas.Bool.{cases_Bool}
@@ -35,7 +35,7 @@ no_shares s none no_log =
     let right : s.target * 0 ≡ 0 = omega arith in
     ap (λ (n : ℕ). n * s.targets) none ∙ left ∙ sym right ∙ ap (λ (n : ℕ). s.target * n) (sym no_log)
 
--- where nothing was cut, each rule gives the base price
+-- if nothing was cut, each rule gives the base price
 nothing_cut : (rule : NamedRule) (s : Standing) → s.count ≡ 0 → s.counts ≡ 0 → price_by rule s ≡ s.base
 nothing_cut Steady s none no_log = refl
 nothing_cut Linear s none no_log = even (cut_share s) (wanted_share s) _ _ s.base (no_shares s none no_log)

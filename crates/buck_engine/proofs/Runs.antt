@@ -5,7 +5,7 @@ use Rattle.std.specs.Io.KnownBytes.{Keeps}
 use Rattle.std.proofs.KnownBytes.{Keeps-refl}
 use Rattle.buck_book.specs.History.{HistoryParts}
 use Rattle.buck_engine.specs.declared.fault.EngineFault.{EngineFault}
-use Rattle.buck_engine.specs.declared.fault.EngineFault.TheVariants.{Read, Write, Apt, Stm, Journal, JournalOf, Replay, ReplayOf, Check, Seats, Full, Memory, Close}
+use Rattle.buck_engine.specs.declared.fault.EngineFault.TheVariants.{Write, Seats, Memory}
 use Rattle.buck_engine.specs.declared.fleet.serving.Order.{Order}
 use Rattle.buck_engine.specs.declared.fleet.serving.Order.TheVariants.{AtOnce, InTurn}
 use Rattle.buck_engine.specs.run.Reading.{IsFileFault, ReadsApt}
@@ -43,7 +43,7 @@ fleet_fault apt stms fault (inr (inr (accepted, inr (all, inl full)))) = subst I
 fleet_fault apt stms fault (inr (inr (accepted, inr (all, inr (inl memory))))) = subst IsNoWrite (sym memory) tt
 fleet_fault apt stms fault (inr (inr (accepted, inr (all, inr (inr close))))) = subst IsNoWrite (sym close.1) tt
 
--- nothing is written where there is no history
+-- nothing is written if there is no history
 pub no_texts : (reads : ReadsApt) (order : Order) (ByRule : HistoryParts → Type 0) (apt : Option (List ℕ))
     (stms : List (Option (List ℕ))) (OfJournal : OfWriter) (old : Option (List ℕ)) (fault : EngineFault)
     (r : Result (Unit {0}) EngineFault)
@@ -81,7 +81,7 @@ of_history reads order ByRule apt stms OfJournal old new h (Err Memory) seats is
     }
 of_history reads order ByRule apt stms OfJournal old new h (Err fault) seats is turns never = absurd never
 
--- the same, where they are those of the same history by another name
+-- the same, if they are those of the same history by another name
 pub texts_written : (reads : ReadsApt) (order : Order) (ByRule : HistoryParts → Type 0) (apt : Option (List ℕ))
     (stms : List (Option (List ℕ))) (OfJournal : OfWriter) (old new : Option (List ℕ)) (h shown : HistoryParts)
     (r : Result (Unit {0}) EngineFault)

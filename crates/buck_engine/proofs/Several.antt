@@ -151,7 +151,7 @@ pub no_memory : (HasText : InstructionParts → List JournalParts → Type 0) (S
     (js : List JournalParts) (old : Option (List ℕ)) → ShowsAll HasText Shown Left i js old old (Err Memory)
 no_memory HasText Shown Left i js old = inl (inl (refl, Keeps-refl old), λ w. absurd (cc w))
 
--- nothing is written where a file has a fault
+-- nothing is written if a file has a fault
 kept : (reads : ReadsApt) (HasText : InstructionParts → List JournalParts → Type 0) (Shown Left : Type 0)
     (apt : Option (List ℕ)) (files : List (Option (List ℕ))) (old : Option (List ℕ)) (fault : EngineFault)
     → IsSeveralFault apt files fault

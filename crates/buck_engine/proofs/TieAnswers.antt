@@ -160,7 +160,7 @@ check_fault reads rule apt journal stms fault (inr (few, inl input)) = input_fau
 check_fault reads rule apt journal stms fault (inr (few, inr of)) =
     ties_fault of.files rule of.instruction of.read fault of.answers
 
--- nothing is written where the answer is a fault
+-- nothing is written if the answer is a fault
 pub not_answered : (reads : ReadsApt) (rule : Option NamedRule) (apt journal : Option (List ℕ))
     (stms : List (Option (List ℕ))) (old : Option (List ℕ)) (fault : EngineFault) (r : Result (Unit {0}) EngineFault)
     → IsErrAnd r (λ x. x ≡ fault) → AnswersCheckWith reads rule apt journal stms (Err fault)

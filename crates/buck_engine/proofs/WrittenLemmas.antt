@@ -27,7 +27,7 @@ then_written a b c s t (Err e) p (w, (k, lt, q)) = (
   ),
 )
 
--- where the first stops, all stops
+-- if the first stops, all stops
 pub stopped : (a b : Option (List ℕ)) (s t : List ℕ) (f : EngineFault) (r : Result (Unit {0}) EngineFault)
     → IsErrAnd r (λ e. e ≡ f) → IsWritten a b s (Err f) → IsWritten a b (s ++ t) r
 stopped a b s t f (Ok u) h q = absurd h
@@ -72,7 +72,7 @@ taken text at n le h =
     ∙ ap (λ k. take (k + n) (take at text ++ drop at text)) len
     ∙ ap (take (at + n)) (take-append-drop at text)
 
--- a list from its place i on, where i is in it
+-- a list from its place i on, if i is in it
 pub parts_at : {X Y : Type 0} (f : X → List Y) (xs : List X) (i : ℕ) (d : X) → i < length xs
     → flat_map f xs ≡ flat_map f (take i xs) ++ (f (get_or xs i d) ++ flat_map f (drop (i + 1) xs))
 parts_at f xs i d lt =

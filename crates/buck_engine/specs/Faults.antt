@@ -13,7 +13,7 @@ use Rattle.buck_engine.specs.declared.fault.EngineFault.TheVariants.{Read, Write
 abbrev pub memory_line : List ℕ
 memory_line = codes "memory\n"
 
--- the line of a fault of a kind, from its number and fields: the number of the file, where there are several, stands
+-- the line of a fault of a kind, from its number and fields: the number of the file, if there are several, stands
 -- before them; memory that ran out has no number
 abbrev pub numbered_line : List ℕ → List ℕ → List ℕ → List ℕ
 numbered_line kind file [] = memory_line
@@ -35,7 +35,7 @@ fault_line Full = codes "full\n"
 fault_line Memory = memory_line
 fault_line (Close fault) = numbered_line (codes "close") [] (close_numbers fault)
 
--- the exit status of a fault with a number, and 3 where memory ran out in its place
+-- the exit status of a fault with a number, and 3 if memory ran out in its place
 abbrev pub status_or : ℕ → List ℕ → ℕ
 status_or refused [] = 3
 status_or refused (number ∷ fields) = refused

@@ -51,7 +51,7 @@ pub enum EngineFault {
     /// The fleet's history and what its harvesters were answered differ.
     #[error("the fleet did not close well: {0}")]
     Close(CloseFault),
-    /// A growth was refused. It may come in place of any answer.
+    /// An allocation failed. It may come in place of any answer.
     #[error("out of memory")]
     Memory,
 }
@@ -59,7 +59,7 @@ pub enum EngineFault {
 /// Why there is no text.
 #[derive(Clone, Copy, Debug, PartialEq, Eq, Error)]
 pub enum TextFault {
-    /// A growth was refused.
+    /// An allocation failed.
     #[error("out of memory")]
     Memory,
 }
@@ -108,7 +108,7 @@ impl From<Memory> for TextFault {
     }
 }
 
-/// The status of a fault that has a number, and 3 where memory ran out in its place.
+/// The status of a fault that has a number, and 3 if memory ran out in its place.
 fn status_or<F: Numbered>(refused: u8, fault: &F) -> u8
     ensures { result ≡ status_or refused (F.numbers fault.now) }
 {
@@ -118,9 +118,9 @@ fn status_or<F: Numbered>(refused: u8, fault: &F) -> u8
     }
 }
 
-/// The exit status of the program after a fault: 1 where a file was refused, 2 where there are not 1 to 64 stem files,
-/// 3 where memory or the history's room ran out, also while a file was read, 4 where a journal isn't lawful or isn't
-/// that of the stem files or the rule, or a fleet didn't close well, and 5 where a file couldn't be read or the output
+/// The exit status of the program after a fault: 1 if a file was refused, 2 if there are not 1 to 64 stem files,
+/// 3 if memory or the history's room ran out, also while a file was read, 4 if a journal isn't lawful or isn't
+/// that of the stem files or the rule, or a fleet didn't close well, and 5 if a file couldn't be read or the output
 /// couldn't be written.
 pub fn status(fault: &EngineFault) -> u8
     ensures { result ≡ status_of fault.now }

@@ -59,7 +59,7 @@ few_more s stem logs k a before now p parts few short lt there =
       length-take-le k logs (omega arith),
     )
 
--- one log more: a number of it counts where it is of the assortment
+-- one log more: a number of it counts if it is of the assortment
 part_step : (n : Log → ℕ) (a : ℕ) (logs : List Log) (k : ℕ) (g : Log) → k < length logs → g ≡ get_or logs k g
     → sum_in_part n a (take (k + 1) logs) ≡ sum_in_part n a (take k logs) + cond (g.assortment == a) (n g) 0
 part_step n a logs k g lt is =

@@ -11,7 +11,7 @@ use Rattle.buck_book.specs.Counts.{is_class, class_logs}
 use Rattle.buck_book.proofs.Cuts.{place_tells}
 use Rattle.buck_figures.specs.inner.Counted.{AreCountsWith}
 
--- a class has one log more, where the log is of it
+-- a class has one log more, if the log is of it
 class_more : (i : InstructionParts) (c : Class) (stem : StemParts) (logs : List Log) (k : ℕ) (g : Log) → k < length logs
     → g ≡ get_or logs k g
     → class_logs i c stem (take (k + 1) logs)

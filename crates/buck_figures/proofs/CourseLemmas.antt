@@ -299,7 +299,7 @@ point_there i js us before after demands c p course begun point told =
           (subst (λ n. IsTrue p.demand ↔ (n < c.account.tally.total.demands)) told point.demand);
     }
 
--- a point stays what it is where more postings come after it
+-- a point stays what it is if more postings come after it
 point_stays : (i : InstructionParts) (js : List JournalParts) (us vs : List Posting) (before after : ℕ) (p : Point)
     → after ≤ length us → IsPoint i js us before after p → IsPoint i js (us ++ vs) before after p
 point_stays i js us vs before after p le point = record {

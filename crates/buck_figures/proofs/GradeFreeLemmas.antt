@@ -1,4 +1,4 @@
--- No stem is worth less where every assortment takes every grade: what may be cut with grades may be cut without them,
+-- No stem is worth less if every assortment takes every grade: what may be cut with grades may be cut without them,
 -- and is worth the same.
 use Rattle.std.proofs.Common.{◌≡◌, ℕ, zero, suc, ◌+◌, ◌<◌, ◌≤◌, List, [], ◌∷◌, ◌++◌, Contains, map, length, take, get_or, refl, sym, subst, ap, ◌∙◌, arith}
 use Rattle.std.specs.Prelude.{slice_get, slice_index, Option, Some, None, sum_by}

@@ -31,7 +31,7 @@ pub all_ok : {T E : Type 0} (A B C : Type 0) (r : Result T E) → OnOk r A → O
 all_ok A B C (Ok x) a b c = (a, b, c)
 all_ok A B C (Err e) a b c = tt
 
--- where nothing was cut, nothing is worth anything
+-- if nothing was cut, nothing is worth anything
 no_worth : (us : List Posting) → sum_by cuts_in us ≡ 0 → sum_by worth_in us ≡ 0
 no_worth [] none = refl
 no_worth (Cut e ∷ us) none = absurd (omega (arith, none, sum_by-cons cuts_in (Cut e) us))

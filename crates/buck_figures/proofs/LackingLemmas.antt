@@ -78,7 +78,7 @@ before_or_this at class b c (inr h) = elim (cases_lt c class) [
   | inr le ↦ inr (h.0, omega (arith, le, h.1))
 ]
 
--- where all is wanted of nothing, or nothing was cut, no class has less than its share
+-- if all is wanted of nothing, or nothing was cut, no class has less than its share
 index_low : (ns : List ℕ) (k : ℕ) → slice_index ns k ≤ sum ns
 index_low ns k = elim (cases_lt k (length ns)) [
   | inl lt ↦ get_or-le-sum_by (λ n. n) ns k 0 lt

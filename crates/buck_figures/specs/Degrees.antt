@@ -15,7 +15,7 @@ abbrev pub diameter_degree_of : ℕ → ℕ → List ℕ → List ℕ → Option
 diameter_degree_of rows columns targets counts =
     degree_of (map sum (rows_of rows columns targets)) (map sum (rows_of rows columns counts))
 
--- the logs of a row, given its degree as an assortment of its own: they count where it has one, with that degree each
+-- the logs of a row, given its degree as an assortment of its own: they count if it has one, with that degree each
 abbrev pub counted : Option ℕ → ℕ → ℕ
 counted None logs = 0
 counted (Some degree) logs = logs
@@ -30,7 +30,7 @@ counted_in targets counts = sum_by (λ r. counted (degree_of r.0 r.1) (sum r.1))
 abbrev pub weighed_in : List (List ℕ) → List (List ℕ) → ℕ
 weighed_in targets counts = sum_by (λ r. weighed (degree_of r.0 r.1) (sum r.1)) (zip targets counts)
 
--- of lengths: the mean of the rows' own degrees over the logs that count, rounded down; none where none counts
+-- of lengths: the mean of the rows' own degrees over the logs that count, rounded down; none if none counts
 abbrev pub mean_of : ℕ → ℕ → Option ℕ
 mean_of all logs = cond (logs == 0) None (Some (all / logs))
 

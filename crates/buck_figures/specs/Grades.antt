@@ -1,5 +1,5 @@
--- What stems are worth by their best cuttings at base prices, of all and of each harvester: where the instruction is
--- that of which every assortment takes every grade, what they are worth without grades.
+-- What stems are worth by their best cuttings at base prices, of all and of each harvester; under the instruction of
+-- which every assortment takes every grade, what they are worth without grades.
 use Rattle.std.specs.Prelude.{◌≡◌, ℕ, ◌<◌, List, Option, Some, None, sum_by}
 use Rattle.std.specs.Ordering.{nat_cmp}
 use Rattle.std.specs.BTreeMap.{get}

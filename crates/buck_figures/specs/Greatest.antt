@@ -1,11 +1,11 @@
--- The longest stem, and the one where steering cost most.
+-- The longest stem, and the one whose steering cost most.
 use Rattle.std.specs.Prelude.{◌≡◌, ℕ, ◌+◌, ◌-◌, ◌<◌, ◌≤◌, List, map, slice_index, Option, Some, None}
 use Rattle.std.specs.List.{zip}
 use Rattle.buck_apt.specs.Instruction.{InstructionParts}
 use Rattle.buck_book.specs.declared.posting.Posting.{Posting}
 use Rattle.buck_figures.specs.Figures.{cuts_in, length_in, worth_in, at_base_in}
 
--- the place of the first of the greatest of some numbers; none where all are 0
+-- the place of the first of the greatest of some numbers; none if all are 0
 abbrev pub IsFirstGreatest : List ℕ → Option ℕ → Type 0
 IsFirstGreatest ns None = (k : ℕ) → slice_index ns k ≡ 0
 IsFirstGreatest ns (Some at) =

@@ -9,7 +9,7 @@ postings_of [] = []
 postings_of (j ∷ []) = j.entries
 postings_of (j ∷ k ∷ more) = j.entries ++ postings_of (k ∷ more)
 
--- the postings of a journal, and its sheets; none where there is no journal
+-- the postings of a journal, and its sheets; none if there is no journal
 abbrev pub entries_in : Option JournalParts → List Posting
 entries_in None = []
 entries_in (Some j) = j.entries
@@ -18,7 +18,7 @@ abbrev pub sheets_in : Option JournalParts → List (List ℕ)
 sheets_in None = []
 sheets_in (Some j) = j.sheets
 
--- so many postings were passed, through all journals, where so many were passed of the journal at a place
+-- so many postings were passed, through all journals, if so many were passed of the journal at a place
 abbrev pub StandsAt : List JournalParts → ℕ → ℕ → ℕ → Type 0
 StandsAt js journal here at =
     (journal < length js)

@@ -52,8 +52,8 @@ pub record IsCut (base : SheetParts) (prices : List ℕ) (e : EntryParts) (c : C
 abbrev pub posting_in : List JournalParts → Place → Option Posting
 posting_in js place = slice_get (entries_in (slice_get js place.journal)) place.at
 
--- what is told of a place among the postings of some journals: the cut that stands there, which was planned under the
--- sheet of its version; nothing where no cut does
+-- the cut at a place among the postings of some journals, which was planned under the sheet of its version; nothing if
+-- no cut stands there
 abbrev pub IsToldAt : SheetParts → List JournalParts → Place → Option Cut → Type 0
 IsToldAt base js place None = (e : EntryParts) → posting_in js place ≢ Some (as_posting e)
 IsToldAt base js place (Some c) =

@@ -115,7 +115,7 @@ fn wood_of(base: &Sheet, stem: &Stem, logs: &[Log]) -> Wood
     wood
 }
 
-/// What a cut comes to, given what the first best cutting of its stem at base prices is worth.
+/// Gives the sums of a cut, from the worth of the best cutting of its stem at base prices.
 pub fn sums_of_cut(base: &Sheet, entry: &Entry, best: u64) -> Sums
     requires admissible { IsAdmissible base.now entry.now.stem entry.now.logs }
     requires best { cutting_worth base.now entry.now.stem entry.now.logs ≤ best }
@@ -139,7 +139,7 @@ pub fn sums_of_cut(base: &Sheet, entry: &Entry, best: u64) -> Sums
     }
 }
 
-/// What a demand comes to.
+/// Gives the sums of a demand.
 pub fn sums_of_demand() -> Sums
     ensures { (i : InstructionParts) (d : DemandParts) → AreSums i (Demand d ∷ []) (Demand d ∷ []) result }
 {
@@ -157,7 +157,7 @@ pub fn sums_of_demand() -> Sums
     }
 }
 
-/// What a posting comes to, with the best cutting of its stem at base prices, if it is a cut. Refused as `Memory`
+/// Gives the sums of a posting, with the best cutting of its stem at base prices, if it is a cut. Refused as `Memory`
 /// alone.
 pub fn sums_of(
     alloc: Global,

@@ -24,7 +24,7 @@ pub(crate) struct Course<'a> {
     pub before: usize,
     /// The way through that journal.
     pub walk: Walk<'a>,
-    /// What the postings that were passed come to, through all journals.
+    /// The sums of the postings that were passed, through all journals.
     pub account: Account,
     /// The targets in force.
     pub targets: Arc<Vec<u32>>,
@@ -107,7 +107,7 @@ fn go_over<'a>(
     })
 }
 
-/// The way to the next posting, over the ends of journals; where there is none, to the end of the last journal.
+/// The way to the next posting, over the ends of journals; if there is none, to the end of the last journal.
 pub(crate) fn go_on<'a>(
     alloc: Global,
     course: Course<'a>,

@@ -7,7 +7,7 @@ ghost use Rattle.buck_figures.specs.Degrees.{AreDegreesBy, diameter_degree_of, l
 use crate::parts::{part, sum_of};
 use buck_apt::Instruction;
 
-/// The degrees of apportionment of an assortment, in ten-thousandths; none where nothing is wanted or nothing was cut.
+/// The degrees of apportionment of an assortment, in ten-thousandths; none if nothing is wanted or nothing was cut.
 #[derive(Clone, Copy, Debug, PartialEq, Eq)]
 pub struct Degrees {
     /// Degree over its classes, 0 to 10,000 ten-thousandths.
@@ -20,7 +20,7 @@ pub struct Degrees {
 }
 
 impl Degrees {
-    /// Where nothing is wanted, or nothing was cut.
+    /// If nothing is wanted, or nothing was cut.
     pub const NONE: Degrees = Degrees {
         whole: None,
         diameter: None,

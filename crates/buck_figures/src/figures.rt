@@ -80,7 +80,7 @@ pub struct Point<'a> {
     pub demand: bool,
 }
 
-/// What the logs of an assortment come to.
+/// The sums of an assortment's logs.
 #[derive(Clone, Copy)]
 pub struct Part {
     /// Number of logs.
@@ -120,7 +120,7 @@ pub struct Figures<'a> {
     pub points: Vec<Point<'a>>,
     /// Index, from 0 through all journals, of the first posting of the longest stem; none if every length is 0 mm.
     pub longest: Option<usize>,
-    /// Index, from 0 through all journals, of the first posting where steering cost most; none if it cost nothing.
+    /// Index, from 0 through all journals, of the first posting whose steering cost most; none if it cost nothing.
     pub dearest: Option<usize>,
     ghost some_journal: { 0 < length journals.now },
     ghost few: { length (postings_of journals.now) ≤ MOST_POSTINGS },

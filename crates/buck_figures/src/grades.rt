@@ -115,7 +115,8 @@ fn add_journal(
     Ok(())
 }
 
-/// What the stems of these figures would be worth without grades. Each is planned once more. Refused as `Memory` alone.
+/// Gives the worth that the stems of these figures would have without grades: plans each once more. Refused as `Memory`
+/// alone.
 pub fn grade_free_of(alloc: Global, figures: &Figures<'_>) -> Result<GradeFree, Memory>
     ensures { IfOk result (AreBestWorths (grade_free figures.now.instruction.now)
         (postings_of figures.now.journals.now)) }

@@ -49,7 +49,7 @@ impl Lack {
         half_up(10 * self.gap(), u128::from(self.targets))
     }
 
-    /// What the class costs of the degree, in ten-thousandths.
+    /// Points of the degree that the class costs, in ten-thousandths.
     #[tactic(auto, using(crate::proofs::LackLemmas::whole_product))]
     pub fn cost(&self) -> u128
         ensures { result ≡ half_up (10000 * gap_of self.now) (self.now.targets * self.now.counts) }
@@ -69,7 +69,7 @@ fn by_logs(one: &Lack, other: &Lack) -> Ordering
     theirs.cmp(&mine)
 }
 
-/// Adds the classes of the assortment at a place that lack logs, where those of the assortments before it are found.
+/// Adds the classes of the assortment at a place that lack logs, once those of the assortments before it are found.
 fn add_lacking(found: &mut Vec<Lack>, figures: &Figures<'_>, at: usize) -> Result<(), Memory>
     requires exists { at < length figures.now.instruction.now.assortments }
     requires before { AreLacksBefore figures.now.instruction.now figures.now.targets.value.items

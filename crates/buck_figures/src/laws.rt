@@ -13,8 +13,8 @@ ghost use Rattle.buck_figures.specs.Figures.{AreUnsteered, IsUnsteered, at_base_
 ghost use Rattle.buck_figures.specs.Assorted.{AreParts};
 ghost use Rattle.buck_figures.specs.declared.figures.Part.{Part};
 
-/// What steering cost is never below 0, of a posting nor of all: what was cut of a stem is one of its cuttings under
-/// any prices, so at base prices it isn't worth more than the best one.
+/// The cost of steering is never below 0, of a posting nor of all: the logs cut of a stem are one of its cuttings under
+/// any prices, so at base prices they aren't worth more than the best one.
 pub fn steering_never_gains()
     ensures of_each { (i : InstructionParts) (j : JournalParts) (us : List Posting)
         → IsLawful (history_of i j) → AreUnsteered i j.entries us
@@ -25,8 +25,8 @@ pub fn steering_never_gains()
         → sum_by (at_base_in i) j.entries ≤ sum_by worth_in us }
 {}
 
-/// Grades never gain: no stem's best cutting at base prices is worth less where every assortment takes every grade,
-/// since what may be cut with grades may be cut without them, and is worth the same.
+/// Grades never gain: no stem's best cutting at base prices is worth less if every assortment takes every grade,
+/// because what may be cut with grades may be cut without them, and is worth the same.
 pub fn grades_never_gain()
     ensures of_each { (i : InstructionParts) → IsInstruction i → (x u free : Posting)
         → IsUnsteered i x u → IsUnsteered (grade_free i) x free → worth_in u ≤ worth_in free }

@@ -65,7 +65,7 @@ fn degrees_of(
     Ok(degrees)
 }
 
-/// The prices of a version, of some sheets; none where it isn't among them.
+/// The prices of a version, of some sheets; none if it isn't among them.
 fn prices_in(sheets: &[Vec<u32>], version: u32) -> &[u32]
     ensures { result.now ≡ prices_at (map (λ w. w.items) sheets.now) version }
 {
@@ -75,7 +75,7 @@ fn prices_in(sheets: &[Vec<u32>], version: u32) -> &[u32]
     }
 }
 
-/// The point at which a way stands, where so many demands were passed before the last point.
+/// The point at which a way stands, after so many demands before the last point.
 fn point_of<'a>(
     alloc: Global,
     instruction: &Instruction,

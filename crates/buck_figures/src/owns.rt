@@ -10,7 +10,7 @@ use buck_record::Memory;
 use std::alloc::Global;
 use std::collections::BTreeMap;
 
-/// What the postings of a harvester come to.
+/// The sums of a harvester's postings.
 #[derive(Clone, Copy)]
 pub struct Own {
     /// Number of the harvester, from 1.

@@ -17,7 +17,7 @@ pub fn sum_of(numbers: &[u32]) -> u64
     all
 }
 
-/// Of some numbers with one for each class of the instruction, those of the assortment at a place; none where there are
+/// Of some numbers with one for each class of the instruction, those of the assortment at a place; none if there are
 /// fewer numbers.
 pub fn part<'a, T>(instruction: &Instruction, numbers: &'a [T], at: usize) -> &'a [T]
     requires { at < length instruction.now.assortments }

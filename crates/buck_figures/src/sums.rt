@@ -2,7 +2,7 @@
 ghost use Rattle.std.specs.Prelude.{◌≡◌, ◌+◌, ◌*◌, ◌≤◌, ◌^◌};
 ghost use Rattle.buck_book.specs.declared.posting.TheConstants.{MOST_POSTINGS};
 
-/// What some postings come to.
+/// The sums of some postings.
 #[derive(Clone, Copy)]
 pub struct Sums {
     /// Number of stems cut.
@@ -33,8 +33,8 @@ pub struct Sums {
 }
 
 impl Sums {
-    /// What steering cost, in millionths of the price unit: the worth of the best cuttings at base prices less that of
-    /// the cuttings made, also at base prices.
+    /// The cost of steering, in millionths of the price unit: the worth of the best cuttings at base prices less that
+    /// of the cuttings made, also at base prices.
     pub fn cost(&self) -> u128
         ensures { result + self.now.at_base ≡ self.now.best }
     {

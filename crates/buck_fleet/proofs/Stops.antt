@@ -1,7 +1,7 @@
 -- what stopped the lowest harvester that was stopped
 use Rattle.buck_fleet.proofs.Words.{◌≡◌, ℕ, ◌+◌, ◌<◌, ◌≤◌, List, arith, refl, ap, ◌∙◌, All, Option, None, Some, IfSome, slice_get-get_or, Contains, RunFault, SeatParts, IsFirstStop, MOST_SEATS}
 
--- the harvester of a seat that was stopped; more than any harvester where it wasn't
+-- the harvester of a seat that was stopped; more than any harvester if it wasn't
 abbrev key : ℕ → Option RunFault → ℕ
 key h None = MOST_SEATS + 1
 key h (Some fault) = h

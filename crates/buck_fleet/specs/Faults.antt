@@ -1,4 +1,4 @@
--- What is told of a fleet that didn't close well: the fault's number, then its fields in the order of their definition.
+-- How a fleet that didn't close well is reported: the fault's number, then its fields in the order of their definition.
 use Rattle.std.specs.Prelude.{ℕ, List, [], ◌∷◌}
 use Rattle.buck_fleet.specs.declared.close.CloseFault.{CloseFault}
 use Rattle.buck_fleet.specs.declared.close.CloseFault.TheVariants.{Instruction, Calls}

@@ -31,7 +31,7 @@ pub record HasCut (n : ℕ) (stems : List StemParts) (before after : SeatParts) 
   pub own : All (λ k. harvester_of k.entry ≡ before.harvester) more
   pub best : All (λ k. IsFirstBestCut k.entry) more
 
--- stems from the beginning of the list were cut; where nothing stopped the run, all of them, and where something did,
+-- stems from the beginning of the list were cut; if nothing stopped the run, all of them, and if something did,
 -- not all
 pub record HasRun (stems : List StemParts) (before after : SeatParts) : Type 0 where
   pub beginning : (n : ℕ) × HasCut n stems before after

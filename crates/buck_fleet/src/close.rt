@@ -52,7 +52,7 @@ impl Numbered for CloseFault {
     }
 }
 
-/// What a fleet hands out when it is closed: a lawful history, and what each seat kept.
+/// The result of a closed fleet: a lawful history, and the postings that each seat kept.
 #[derive(Drop)]
 pub struct Closed {
     parts: Parts,
@@ -196,7 +196,7 @@ impl Closed {
         self.parts.counts()
     }
 
-    /// What each seat kept: at index k, from 0, that of harvester k + 1.
+    /// The postings that each seat kept: at index k, from 0, those of harvester k + 1.
     pub fn kept(&self) -> &[Vec<Kept>]
         ensures { lists_of result.now ≡ self.now.kept }
     {
@@ -244,6 +244,8 @@ impl<F: Drop, L: Ledger> Fleet<F, L> {
             kept,
         } = self;
         let closed = take_in(desk.into_inner(), seats, kept);
+        // Compared in a function that borrows: one that owned desk, seats and book would take three times as long to
+        // prove as the limit for a function allows.
         match closed.fault(&instruction) {
             Some(fault) => Err((fault, closed)),
             None => Ok(closed),

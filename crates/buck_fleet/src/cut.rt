@@ -34,9 +34,9 @@ impl<F: Fn(&Standing) -> u64 + Drop, L: Ledger> Fleet<F, L> {
         ensures left { IfErr result (λ e. seat.new ≡ seat.old) }
     {
         let mut desk = self.lock(rt);
-        // Leave, where there is no memory for a plan: the call ends refused.
+        // Leave, if there is no memory for a plan: the call ends refused.
         let plan = seat.plan(alloc, desk.book.sheet(), stem)?;
-        // Leave, where it is refused.
+        // Leave, if it is refused.
         let (reply, _) = desk.commit_locked(rt, alloc, &self.board, seat, plan)?;
         Ok(Reply { attempts, ..reply })
     }
@@ -75,8 +75,8 @@ impl<F: Fn(&Standing) -> u64 + Drop, L: Ledger> Fleet<F, L> {
             if 1 < attempt && version <= before {
                 break;
             }
-            // Plan: without the lock. Leave, where there is no memory for it: the call ends refused.
-            let plan = seat.plan(alloc, shown.sheet(), &stem)?;
+            // Plan: without the lock. Leave, if there is no memory for it: the call ends refused.
+            let plan = seat.plan_shown(alloc, shown.sheet(), &stem)?;
             gate.planned(rt, seat.harvester(), attempt, &plan);
             match self.try_commit(rt, alloc, &mut *seat, plan) {
                 Ok(reply) => {

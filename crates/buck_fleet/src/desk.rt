@@ -21,7 +21,7 @@ use std::alloc::Global;
 use std::sync::ledger::{Ledger, Share};
 use std::sync::{Arc, Wait, ledger};
 
-/// What lies under the lock: the book, and the total of what the seats keep.
+/// The state under the lock: the book, and the total of what the seats keep.
 #[derive(Drop)]
 pub struct Desk<F, L: Ledger> {
     pub(crate) book: Book<F>,
@@ -33,7 +33,7 @@ pub struct Desk<F, L: Ledger> {
 }
 
 /// Makes all that the commit of a prepared plan needs beside the book, the room in the seat's kept list first, and puts
-/// the next sheet up, where it ends a period.
+/// the next sheet up, if it ends a period.
 fn prepare_rest<R: Wait>(
     rt: &R,
     board: &Board,
@@ -85,10 +85,10 @@ fn keep<L: Ledger>(
 }
 
 impl<F: Fn(&Standing) -> u64 + Drop, L: Ledger> Desk<F, L> {
-    /// Adds the entry of a plan that the book has prepared: puts the next sheet up where it ends a period, adds the
+    /// Adds the entry of a plan that the book has prepared: puts the next sheet up if it ends a period, adds the
     /// entry to the history and to the seat's kept list, and raises the front to the version in force. Answers also
-    /// what shows that a sheet was put up: without it no sheet comes to the history. The plan is given back where a
-    /// growth was refused.
+    /// what shows that a sheet was put up: without it no sheet comes to the history. The plan is given back if an
+    /// allocation failed.
     fn add<R: Wait>(
         &mut self,
         rt: &R,

@@ -17,7 +17,7 @@ pub enum TryFault {
     /// The plan was made under another sheet than the one in force.
     #[error("the plan was made under another sheet than the one in force")]
     Stale { in_force: Arc<Sheet>, plan: Plan },
-    /// A growth was refused.
+    /// An allocation failed.
     #[error("out of memory")]
     Memory { plan: Plan },
 }
@@ -40,7 +40,7 @@ pub enum RunFault {
     /// The history is at its capacity.
     #[error("the history is at its capacity")]
     Full,
-    /// A growth was refused.
+    /// An allocation failed.
     #[error("out of memory")]
     Memory,
 }
@@ -65,7 +65,7 @@ pub enum RetargetFault {
     /// The targets aren't valid.
     #[error("{0}")]
     Targets(TargetsFault),
-    /// A growth was refused.
+    /// An allocation failed.
     #[error("out of memory")]
     Memory,
 }

@@ -1,8 +1,8 @@
-//! Gates: what is told of plans while a fleet cuts.
+//! Gates: observers of plans while a fleet cuts.
 use buck_book::Plan;
 use std::sync::Wait;
 
-/// What is told of each plan that a call made without the lock. It may wait, since nobody holds the lock then.
+/// Observes each plan that a call made without the lock. It may wait, because nobody holds the lock then.
 pub trait Gate {
     /// A harvester made the plan of its attempt, 1 to 3, and is about to bring it to the book.
     fn planned<R: Wait>(&self, rt: &R, harvester: u32, attempt: u8, plan: &Plan);

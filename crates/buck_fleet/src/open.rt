@@ -29,7 +29,7 @@ pub enum OpenFault {
     /// Not 1 to 1,000,000 postings.
     #[error("not 1 to 1000000 postings")]
     Capacity,
-    /// A growth was refused.
+    /// An allocation failed.
     #[error("out of memory")]
     Memory,
 }

@@ -54,15 +54,15 @@ fn first_stop<L: Ledger>(seats: &[Seat<L>]) -> Option<RunFault>
 {
     let first = seats.iter().min_by_key(|seat| match seat.stopped {
         Some(_) => seat.harvester,
-        // Behind every harvester: such a seat is the first only where none was stopped.
+        // Behind every harvester: such a seat is the first only if none was stopped.
         None => MOST_SEATS + 1,
     })?;
     first.stopped
 }
 
 /// Cuts one list of stems by each seat of a fleet, each in a thread of its own and in order. A harvester stops at its
-/// first fault, and the others go on. The seats come back in the order given, also where a growth was refused; of
-/// several faults that of the lowest harvester is answered.
+/// first fault, and the others go on. The seats come back in the order given, also if an allocation failed; of several
+/// faults that of the lowest harvester is answered.
 pub fn run_fleet<
     F: Fn(&Standing) -> u64 + Drop + Send,
     L: Ledger + Send + Sync,

@@ -31,10 +31,10 @@ pub enum Path {
     Locked,
 }
 
-/// What a call that cuts a stem answers.
+/// The answer to a call that cuts a stem.
 #[derive(Drop)]
 pub struct Reply {
-    /// What was cut, as it stands in the history.
+    /// The cut, as it stands in the history.
     pub entry: Entry,
     /// Index of the posting in the history, from 0.
     pub position: u32,
@@ -45,7 +45,7 @@ pub struct Reply {
     pub path: Path,
 }
 
-/// What a call that puts new targets in force answers.
+/// The answer to a call that puts new targets in force.
 #[derive(Drop)]
 pub struct DemandReply {
     /// The demand, as it stands in the history.
@@ -54,7 +54,7 @@ pub struct DemandReply {
     pub position: u32,
 }
 
-/// What a posting changes of its seat: its place at the board, what it was answered, and its share of the ledger.
+/// The state of a seat that a posting changes: its place at the board, its replies, and its share of the ledger.
 #[derive(Drop)]
 pub struct Own<L: Ledger> {
     pub(crate) place: BoardSeat,
@@ -113,7 +113,7 @@ impl<L: Ledger> Seat<L> {
         }
     }
 
-    /// Plans a stem under a sheet, with the planner that is there: it is renewed where the sheet is another. It asks
+    /// Plans a stem under a sheet, with the planner that is there: it is renewed if the sheet is another. It asks
     /// nobody else and waits for nobody.
     pub(crate) fn plan(
         &mut self,
@@ -127,6 +127,7 @@ impl<L: Ledger> Seat<L> {
     {
         match &mut self.planner {
             Some(planner) => {
+                // By value: no type says that the planner's sheet is one of the book's, whatever its version.
                 if !planner.sheet().same(sheet) {
                     planner.renew(alloc, sheet.clone()?)?;
                 }
@@ -138,6 +139,30 @@ impl<L: Ledger> Seat<L> {
                 self.planner = Some(planner);
                 Ok(plan)
             }
+        }
+    }
+
+    /// Plans a stem under a sheet that the fleet's board shows, with the planner that is there: it is renewed if the
+    /// sheet is of another version. A board shows one sheet of a version, so no prices are compared here; a plan under
+    /// any other sheet is refused when it is brought to the book.
+    pub(crate) fn plan_shown(
+        &mut self,
+        alloc: Global,
+        shown: &Arc<Sheet>,
+        stem: &Arc<Stem>,
+    ) -> Result<Plan, Memory>
+        ensures same { self.new ≡ self.old }
+        ensures version { IfOk result (λ p. p.sheet.version ≡ shown.now.value.version) }
+        ensures stem { IfOk result (λ p. p.stem ≡ stem.now.value) }
+    {
+        match &mut self.planner {
+            Some(planner) => {
+                if planner.sheet().version() != shown.version() {
+                    planner.renew(alloc, shown.clone()?)?;
+                }
+                Plan::make_with(alloc, planner, stem.clone()?)
+            }
+            None => self.plan(alloc, shown, stem),
         }
     }
 
@@ -155,7 +180,7 @@ impl<L: Ledger> Seat<L> {
         self.own.place.seen()
     }
 
-    /// What it was answered, in order.
+    /// Its replies, in order.
     pub fn kept(&self) -> &[Kept]
         ensures { result.now ≡ self.now.kept }
     {

@@ -1,10 +1,11 @@
 -- A box of a kept book, and the calls that make it a pointer and back.
 use Rattle.std.proofs.Common.{List, [], ◌∷◌, refl}
-use Rattle.std.specs.contracts.impls.GlobalAllocator.TheImpl.{ghosts, dict}
+pub use Rattle.std.proofs.impls.GlobalAllocator.TheImpl.Met.{passed}
+pub use Rattle.std.specs.contracts.impls.GlobalAllocator.TheImpl.{ghosts, dict}
 use seplogic.Ra.Ura.{Ura}
 use base.Fraction.{full_share}
 use base.Logic.{emp, emp∗, sep, ex}
-use base.Fml.{Lft, ftrue, fsep, flft}
+use base.Fml.{ftrue, fsep, flft}
 use mir.Raw.{raw as bare}
 use mir.Syntax.{Dict, impl, tnil, tcons, dnil, method, no_args}
 use contract.BorrowLft.{◌⊑◌}
@@ -67,12 +68,6 @@ kept_arg_Laws = arg_laws (bare (layout KeptBook)) no KeptBook kept_laws.the_row_
 abbrev pub heap_arg_Laws : Laws HeapArg
 heap_arg_Laws = arg_laws (bare (layout Heap)) no Heap heap_Laws refl
 
-kept_lives : (κ : Lft) → κ ⊑ KeptArg.lives
-kept_lives = kept_laws.the_within
-
-heap_lives : (κ : Lft) → κ ⊑ HeapArg.lives
-heap_lives = heap_laws.the_within
-
 -- what lets go of a handle of the heap, and of a kept book
 abbrev pub heap_drop : Dict
 heap_drop = impl ("buck_held::Destruct++none::drop" ∷ []) (tcons (layout HeapArg) tnil) dnil
@@ -130,7 +125,7 @@ module _ {M : Type 1} {𝓤 : Ura M} {𝓛 : Logic 𝓤} {K : Type 0} {Γ : List
       (P ∷ Q ∷ Γ) G
   hands t = step (λ rest.
       move t (1 ∷ []) $
-      use0 𝓛 (raw (fact 𝓤 ([] ⊑ HeapArg.lives))) (fact_i 𝓤 ([] ⊑ HeapArg.lives) (emp 𝓤) (heap_lives [])) $ join t $
-      use0 𝓛 (raw (fact 𝓤 ([] ⊑ KeptArg.lives))) (fact_i 𝓤 ([] ⊑ KeptArg.lives) (emp 𝓤) (kept_lives [])) $ join t $
+      use0 𝓛 (raw (fact 𝓤 ([] ⊑ HeapArg.lives))) (fact_i 𝓤 _ (emp 𝓤) (heap_laws.the_within [])) $ join t $
+      use0 𝓛 (raw (fact 𝓤 ([] ⊑ KeptArg.lives))) (fact_i 𝓤 _ (emp 𝓤) (kept_laws.the_within [])) $ join t $
       move t (1 ∷ []) $ nothing t $ use0 𝓛 (‵ (flft [] full_share)) (𝓛.lfts.lft-nil full_share) $ join t $
       use0 𝓛 (‵ (flft [] full_share)) (𝓛.lfts.lft-nil full_share) $ join t $ join t $ join t $ rest)

@@ -10,9 +10,9 @@ pub use mir.Val.{Val}
 pub use prog.Wp.{WpFn}
 pub use contract.Monad.{fact}
 pub use contract.Running.{tables}
+unfoldable pub use contract.Running.{tables_of}
 pub use types.ByLocal.{alloc_all, pass_all, free_all, look_at, get, get_in, sets, lands_last, lands_as, env}
-pub use types.Kit.{‵, raw, ◌⊛◌, some, later, prop, at_ret, ◌$◌, ◌∵◌, !, qed, done}
-pub use types.Kit.{move, drop, use0, use1, split, split3, join, fsplit, feq_i, feq_l, pick, await, rewrite, regoal, suffices}
+pub use types.Kit.{‵, raw, ◌⊛◌, some, later, prop, at_ret, ◌$◌, ◌∵◌, !, qed, done, move, drop, use0, use1, split, split3, join, fsplit, feq_i, feq_l, pick, await, rewrite, regoal, suffices}
 pub use types.Part.{agg, sub, whole}
 pub use types.Run.{enter, of_opd, lit, stop, fld, no_more, and_then, first, blocks, exec, returns}
 pub use denote.Exit.{yes}
@@ -22,6 +22,7 @@ pub use denote.RawPtr.{Ptr, RawPtr, null_ptr, ptr_val, rawptr_vals, rawptr_Lawfu
 pub use denote.Signature.{plain}
 pub use denote.Steps.{nothing, owned, heard, only, peeks}
 pub use denote.Triple.Call.{calls_at, calls_at_last}
+pub use denote.Triple.Clauses.{Lasts, lasts}
 pub use denote.Triple.Entry.{on_entry}
 pub use denote.Triple.Table.{framed}
 pub use denote.Triple.Walked.{Stays, walk_of, says, stay_dropped, Goes-dropped, ends_at}

@@ -15,7 +15,7 @@ heap = record { memory = record { seal = tt } }
 abbrev pub boxed_at : (R : RattleType) → Ptr → R.Denot → Fml
 boxed_at R p x = box_owns (ghosts.dealloc_token heap) R p x
 
--- what is owned where a value is there
+-- what is owned if a value is there
 abbrev pub where_some : {X : Type 0} → (X → Fml) → Option X → Fml
 where_some owned None = ftrue
 where_some owned (Some x) = owned x
@@ -24,7 +24,7 @@ where_some owned (Some x) = owned x
 abbrev pub mark : ℕ
 mark = 7094686100856205163
 
--- a block is marked where it holds a value, and there alone
+-- a block is marked exactly if it holds a value
 pub record IsMarked {X : Type 0} (stands : ℕ) (held : Option X) : Type 0 where
   pub some : stands ≡ mark → IsSome held
   pub none : stands ≢ mark → held ≡ None

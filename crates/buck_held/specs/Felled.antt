@@ -15,13 +15,6 @@ pair_of z = (z.start, z.grade)
 abbrev pub stem_by : Felled → List ℕ → List Zone → StemParts
 stem_by felled samples zones = stem_of felled.number felled.species samples (map pair_of zones)
 
--- why there is no stem: it is outside the limits, or memory ran out
-abbrev pub IsStemFault : StemParts → FellFault → Type 0
-IsStemFault stem Harvester = ⊥
-IsStemFault stem Stem = IsStem stem → ⊥
-IsStemFault stem Full = ⊥
-IsStemFault stem Memory = Unit {0}
-
 -- why a stem isn't cut: the harvester is looked at first, then the stem, then the capacity
 abbrev pub IsFellFault : KeptParts → Felled → StemParts → FellFault → Type 0
 IsFellFault before felled stem Harvester = 0 < felled.harvester → felled.harvester ≤ 64 → ⊥

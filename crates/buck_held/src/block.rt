@@ -15,7 +15,7 @@ const MARK: u64 = 7_094_686_100_856_205_163;
 #[derive(Drop)]
 pub struct Block {
     mark: u64,
-    /// What it owns.
+    /// The handle of the value that it owns.
     pub handle: Handle,
     ghost marked: { IsMarked mark handle.held },
 }

@@ -1,9 +1,11 @@
 //! Stems as a caller in another language has them, cut one by one.
-ghost use Rattle.std.specs.Prelude.{◌≡◌, IfOk, IfErr, map};
+ghost use Rattle.std.specs.Prelude.{◌≡◌, IfOk, IfErr, IsOk, map};
+ghost use Rattle.buck_apt.specs.Instruction.{IsWithin};
 ghost use Rattle.buck_stem.specs.Stem.{IsStem};
 ghost use Rattle.buck_cutter.specs.Cut.{HasCut};
 ghost use Rattle.buck_held.specs.Kept.{ArePricesBy, SameTerms};
-ghost use Rattle.buck_held.specs.Felled.{pair_of, stem_by, IsFellFault, IsStemFault};
+ghost use Rattle.buck_held.specs.Felled.{pair_of, stem_by, IsFellFault};
+ghost use Rattle.buck_held.specs.Looked.{IsLookFault};
 
 use crate::kept::KeptBook;
 use buck_book::{CutFault, Entry};
@@ -16,7 +18,7 @@ use thiserror::Error;
 #[repr(C)]
 #[derive(Clone, Copy, Drop)]
 pub struct Felled {
-    /// Who cuts it, 1 to 64.
+    /// Number of the harvester that cuts it, 1 to 64.
     pub harvester: u32,
     /// The stem's number, 0 to 4,294,967,295.
     pub number: u32,
@@ -28,7 +30,7 @@ pub struct Felled {
 #[repr(C)]
 #[derive(Clone, Copy, Drop)]
 pub struct Zone {
-    /// Where it starts, in mm from the butt.
+    /// Start of the zone, in mm from the butt.
     pub start: u32,
     /// Its grade, 1 to 8.
     pub grade: u8,
@@ -46,7 +48,7 @@ pub enum FellFault {
     /// The history is at its capacity.
     #[error("the history is at its capacity")]
     Full,
-    /// A growth was refused.
+    /// An allocation failed.
     #[error("out of memory")]
     Memory,
 }
@@ -62,7 +64,7 @@ fn zones_of(alloc: Global, zones: &[Zone]) -> Result<Vec<(u32, u8)>, AllocError>
     Ok(pairs)
 }
 
-/// The stem of these parts.
+/// The stem of these parts, which a harvester from 1 to 64 cuts.
 pub(crate) fn stem_of(
     alloc: Global,
     felled: &Felled,
@@ -71,8 +73,15 @@ pub(crate) fn stem_of(
 ) -> Result<Arc<Stem>, FellFault>
     ensures made { IfOk result (λ stem. stem.value ≡ stem_by felled.now samples.now zones.now) }
     ensures valid { IfOk result (λ stem. IsStem stem.value) }
-    ensures refused { IfErr result (λ fault. IsStemFault (stem_by felled.now samples.now zones.now) fault) }
+    ensures harvester { IsOk result → IsWithin 1 64 felled.now.harvester }
+    ensures refused { IfErr result (IsLookFault felled.now (stem_by felled.now samples.now zones.now)) }
 {
+    if felled.harvester == 0 {
+        return Err(FellFault::Harvester);
+    }
+    if felled.harvester > 64 {
+        return Err(FellFault::Harvester);
+    }
     let Ok(zones) = zones_of(alloc, zones) else {
         return Err(FellFault::Memory);
     };
@@ -91,8 +100,8 @@ pub(crate) fn stem_of(
 
 impl KeptBook {
     /// Cuts a felled stem as [`cut`](KeptBook::cut) does: with its diameters in mm under bark, one per 100 mm from the
-    /// butt, and its zones. Refused as `Harvester` where that isn't from 1 to 64, else as `Stem` where the stem is
-    /// outside the limits of a stem file, else as `Full` at the capacity, and as `Memory` where a growth was refused.
+    /// butt, and its zones. Refused as `Harvester` if that isn't from 1 to 64, else as `Stem` if the stem is outside
+    /// the limits of a stem file, else as `Full` at the capacity, and as `Memory` if an allocation failed.
     pub fn fell(
         &mut self,
         alloc: Global,
@@ -106,15 +115,8 @@ impl KeptBook {
         ensures left { IfErr result (λ _. self.new ≡ self.old) }
         ensures refused { IfErr result (IsFellFault self.old felled.now (stem_by felled.now samples.now zones.now)) }
     {
-        let harvester = felled.harvester;
-        if harvester == 0 {
-            return Err(FellFault::Harvester);
-        }
-        if harvester > 64 {
-            return Err(FellFault::Harvester);
-        }
         let stem = stem_of(alloc, felled, samples, zones)?;
-        match self.cut(alloc, harvester, stem) {
+        match self.cut(alloc, felled.harvester, stem) {
             Ok(entry) => Ok(entry),
             Err(CutFault::Full) => Err(FellFault::Full),
             Err(CutFault::Memory) => Err(FellFault::Memory),

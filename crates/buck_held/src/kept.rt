@@ -1,13 +1,12 @@
 //! The book of one thread, kept between calls, with a rule that has a name.
 ghost use Rattle.std.specs.Prelude.{◌≡◌, ◌<◌, ◌≤◌, IfOk, IfErr, length};
 ghost use Rattle.buck_journal.specs.Written.{journal_text};
-ghost use Rattle.buck_cutter.specs.Cut.{HasCut, HasRetargeted, opening};
+ghost use Rattle.buck_cutter.specs.Cut.{HasCut, HasRetargeted};
 ghost use Rattle.buck_held.specs.Kept.{ArePricesBy, IsDemandRefused, SameTerms, opened};
 ghost use Rattle.buck_held.specs.Looked.{IsPlannedNow};
 ghost use Rattle.buck_book.specs.declared.posting.TheConstants.{MOST_POSTINGS};
 ghost use Rattle.buck_book.specs.declared.ready.CutFault.TheVariants.{Full};
 
-use crate::cutting::{cut, retarget};
 use buck_apt::Instruction;
 use buck_book::{Book, CutFault, Demand, DemandRefusal, Entry, Plan};
 use buck_cutter::Cutter;
@@ -22,6 +21,8 @@ use std::sync::Arc;
 #[derive(Drop)]
 pub struct KeptBook {
     rule: NamedRule,
+    // Without its rule, because the type of a closure can't be named here. Of a function pointer no struct could state
+    // what it answers.
     cutter: Option<Cutter<()>>,
 }
 
@@ -37,22 +38,6 @@ impl Model for KeptBook {
     ghost invariant = { λ k. IsSome k.cutter };
 }
 
-/// A book with no posting and the base sheet, at rest.
-fn resting(
-    alloc: Global,
-    instruction: Arc<Instruction>,
-    rule: NamedRule,
-    capacity: u32,
-) -> Result<Cutter<()>, Memory>
-    requires { (0 < capacity) × (capacity ≤ MOST_POSTINGS) }
-    ensures history { IfOk result (λ c. c.history ≡ opening instruction.value) }
-    ensures capacity { IfOk result (λ c. c.capacity ≡ capacity) }
-{
-    let by = Rule::new(move |s: &Standing| rule.price(s));
-    let cutter = Cutter::open(alloc, instruction, by, capacity)?;
-    Ok(cutter.with_rule(Rule::none()))
-}
-
 impl KeptBook {
     /// A book with no posting, which may have from 1 to 1,000,000. Refused as `Memory` alone.
     pub fn open(
@@ -64,10 +49,11 @@ impl KeptBook {
         requires { (0 < capacity) × (capacity ≤ MOST_POSTINGS) }
         ensures { IfOk result (λ k. k ≡ opened rule instruction.value capacity) }
     {
-        let cutter = resting(alloc, instruction, rule, capacity)?;
+        let by = Rule::new(move |s: &Standing| rule.price(s));
+        let cutter = Cutter::open(alloc, instruction, by, capacity)?;
         Ok(KeptBook {
             rule,
-            cutter: Some(cutter),
+            cutter: Some(cutter.with_rule(Rule::none())),
         })
     }
 
@@ -108,7 +94,7 @@ impl KeptBook {
     }
 
     /// Cuts a stem for a harvester from 1 to 64 under the sheet in force, commits the cutting, and answers its entry.
-    /// Refused as `Full` at the capacity, and as `Memory` where a growth was refused; the history is then as before.
+    /// Refused as `Full` at the capacity, and as `Memory` if an allocation failed; the history is then as before.
     pub fn cut(&mut self, alloc: Global, harvester: u32, stem: Arc<Stem>) -> Result<Entry, CutFault>
         requires harvester { (0 < harvester) × (harvester ≤ 64) }
         ensures terms { SameTerms self.old self.new }
@@ -120,14 +106,16 @@ impl KeptBook {
         let Some(cutter) = self.cutter.take() else {
             unreachable!()
         };
-        let (cutter, entry) = cut(alloc, cutter, self.rule, stem, harvester);
-        self.cutter = Some(cutter);
+        let rule = self.rule;
+        let mut ruled = cutter.with_rule(Rule::new(move |s: &Standing| rule.price(s)));
+        let entry = ruled.cut(alloc, stem, harvester);
+        self.cutter = Some(ruled.with_rule(Rule::none()));
         entry
     }
 
     /// Puts targets in force for a harvester from 1 to 64: one for each class, assortment by assortment and row by row.
-    /// It answers the demand. Refused as `Full` at the capacity, as `Targets` where they aren't valid, and as `Memory`
-    /// where a growth was refused; the history is then as before.
+    /// It answers the demand. Refused as `Full` at the capacity, as `Targets` if they aren't valid, and as `Memory` if
+    /// an allocation failed; the history is then as before.
     pub fn retarget(
         &mut self,
         alloc: Global,
@@ -145,8 +133,10 @@ impl KeptBook {
         let Some(cutter) = self.cutter.take() else {
             unreachable!()
         };
-        let (cutter, demand) = retarget(alloc, cutter, self.rule, targets, harvester);
-        self.cutter = Some(cutter);
+        let rule = self.rule;
+        let mut ruled = cutter.with_rule(Rule::new(move |s: &Standing| rule.price(s)));
+        let demand = ruled.retarget(alloc, targets, harvester);
+        self.cutter = Some(ruled.with_rule(Rule::none()));
         demand
     }
 }

@@ -2,7 +2,6 @@
 #![tactic(auto)]
 
 mod block;
-mod cutting;
 mod felling;
 mod handle;
 mod kept;

@@ -15,7 +15,7 @@ use std::alloc::{AllocError, Global};
 #[repr(C)]
 #[derive(Clone, Copy, Drop)]
 pub struct NamedLog {
-    /// Where it starts, in mm from the butt.
+    /// Start of the log, in mm from the butt.
     pub start: u32,
     /// How long it is, in mm, trim excluded.
     pub length: u32,
@@ -23,7 +23,7 @@ pub struct NamedLog {
     pub assortment: u8,
 }
 
-/// What is said of a cutting that an operator names.
+/// The appraisal of a cutting that an operator names.
 #[derive(Clone, Copy, Debug, PartialEq, Eq, Drop)]
 pub struct Appraisal {
     /// Its worth under the sheet in force, or which log can't be cut, and why.
@@ -62,13 +62,6 @@ impl KeptBook {
             (IsPlannedNow self.old.history (stem_by felled.now samples.now zones.now)) }
         ensures refused { IfErr result (IsLookFault felled.now (stem_by felled.now samples.now zones.now)) }
     {
-        let harvester = felled.harvester;
-        if harvester == 0 {
-            return Err(FellFault::Harvester);
-        }
-        if harvester > 64 {
-            return Err(FellFault::Harvester);
-        }
         let stem = stem_of(alloc, felled, samples, zones)?;
         match self.preview(alloc, stem) {
             Ok(plan) => Ok(plan),
@@ -78,7 +71,7 @@ impl KeptBook {
 
     /// How a felled stem would be cut now: the entry that [`fell`](KeptBook::fell) would give, with nothing committed.
     /// A book at its capacity says it too. Refused as `Harvester` if that isn't from 1 to 64, else as `Stem` if the
-    /// stem is outside the limits of a stem file, and as `Memory` if a growth was refused.
+    /// stem is outside the limits of a stem file, and as `Memory` if an allocation failed.
     pub fn preview_felled(
         &mut self,
         alloc: Global,
@@ -110,9 +103,9 @@ impl KeptBook {
         })
     }
 
-    /// What logs of a felled stem are worth under the sheet in force, or which of them can't be cut and why, beside
-    /// the worth of the best cutting. Nothing is committed, and a book at its capacity says it too. Any logs may be
-    /// named.
+    /// Appraises logs of a felled stem under the sheet in force: their worth, or which of them can't be cut and why,
+    /// beside the worth of the best cutting. Nothing is committed, and a book at its capacity says it too. Any logs may
+    /// be named.
     /// Refused as [`preview_felled`](KeptBook::preview_felled) is.
     pub fn appraise_felled(
         &mut self,

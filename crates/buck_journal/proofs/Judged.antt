@@ -16,7 +16,7 @@ module _ (h : HistoryParts) where
     | inr past ↦ new j x past (far j lt (slice_get_within h.postings j x at)) at
   ]
 
-  -- what is found from a place on is found from an earlier one on, where none between is doubtful
+  -- what is found from a place on is found from an earlier one on, if none between is doubtful
   pub found_further : (from mid n to : ℕ) (found : Option ℕ) → ((j : ℕ) → j < to → j < length h.postings → j < n)
       → NoneDoubtful h from mid → IsFound h mid n found → IsFound h from to found
   found_further from mid n to None far old new = none_further from mid n to far old new
@@ -84,7 +84,7 @@ module _ (h : HistoryParts) where
   first_is_met until at outcome o lt first =
       doubtful_is_met until at (ordered_within h until outcome o) o.right lt first
 
-  -- where none is, what is wrong at the end of the order is the first
+  -- if none is, what is wrong at the end of the order is the first
   stop_is_met : (until : ℕ) (fault : ReplayFault) → IsInOrderBefore h until
       → NoneDoubtful h 0 until → IsWrongAt h until fault → IsFirstFault h fault
   stop_is_met until fault before none wrong = grind (arith, right_before)

@@ -98,7 +98,7 @@ one_past : (n x : ℕ) (xs : List ℕ)
 one_past n x xs =
     let one : 1 + n ≡ suc n = omega arith in let two : 1 + n + 1 ≡ suc (n + 1) = omega arith in (rw one refl, rw two refl)
 
--- the first word of a text that begins with no white byte, and what is after it
+-- the first word of a text that begins with no whitespace byte, and what is after it
 word_of : (xs ns : List ℕ) → AllByRecursion (λ b. is_white b ≡ false) xs
     → (first_word (xs ++ spelled ns) ≡ xs) × (after_word (xs ++ spelled ns) ≡ told ns)
 unfolding first_word after_word told

@@ -71,7 +71,7 @@ targets_of i targets nn = grind (arith, eq_of, le_of)
 meets_of : (s : Standing) (price : ℕ) → Sure (Meets s price)
 meets_of s price nn = grind (arith, eq_of, le_of)
 
--- what a posting says is right where no fault stands in it
+-- what a posting says is right if no fault stands in it
 holds_of : (i : InstructionParts) (sheets : List (List ℕ)) (x : Posting) (k : ℕ)
     → ((fault : ReplayFault) → IsContentFault (sheet_at i sheets (planned_version x)) x k fault → ⊥)
     → Holds i sheets x

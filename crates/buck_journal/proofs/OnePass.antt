@@ -41,16 +41,16 @@ then_follows place [] h = refl
 then_follows place (x ∷ xs) h = rw h refl
 
 pub cut_leads : (c : Call) (head : ℕ × ℕ) (samples : List ℕ) (zones : List (ℕ × ℕ)) (logs : List Log) (w : ℕ)
-    (text called named sampled zoned logged left n₁ n₂ n₄ n₅ : List ℕ)
+    (text called named sampled zoned logged left n₁ n₂ n₃ n₄ n₅ : List ℕ)
     → LeadsNumbers (slot 981 1) text n₁ called → says call_form 1 n₁ ≡ Ok c
     → LeadsNumbers (slot 981 2) called n₂ named → says head_form 1 n₂ ≡ Ok head
-    → LeadsNumbers (slot 981 3) named samples sampled → says samples_form 1 samples ≡ Ok samples
+    → LeadsNumbers (slot 981 3) named n₃ sampled → says samples_form 1 n₃ ≡ Ok samples
     → LeadsNumbers (slot 981 4) sampled n₄ zoned → says zones_form 1 n₄ ≡ Ok zones
     → LeadsNumbers (slot 981 5) zoned n₅ logged → says logs_form 1 n₅ ≡ Ok logs
     → LeadsWorth logged w left
     → LeadsPostings text (Cut (entry_of c (stem_of head.0 head.1 samples zones) logs w) ∷ []) left
 unfolding postings_from posting_at cut_at stem_at
-cut_leads c head samples zones logs w text called named sampled zoned logged left n₁ n₂ n₄ n₅ l₁ s₁ l₂ s₂ l₃ s₃ l₄ s₄ l₅
+cut_leads c head samples zones logs w text called named sampled zoned logged left n₁ n₂ n₃ n₄ n₅ l₁ s₁ l₂ s₂ l₃ s₃ l₄ s₄ l₅
     s₅ l₆ = record {
       items = item_in (slot 981 1) l₁.rest ∷ item_in (slot 981 2) l₂.rest ∷ item_in (slot 981 3) l₃.rest
           ∷ item_in (slot 981 4) l₄.rest ∷ item_in (slot 981 5) l₅.rest ∷ item_in (slot 981 6) l₆.rest ∷ [];
@@ -63,7 +63,7 @@ cut_leads c head samples zones logs w text called named sampled zoned logged lef
         read = λ k before few. rw (
           call_says (slot 981 1) before l₁.rest n₁ c (omega (arith, few)) l₁.read s₁ (k + 1),
           item_says (slot 981 2) head_form l₂.rest n₂ head l₂.read s₂ (k + 2),
-          item_says (slot 981 3) samples_form l₃.rest samples samples l₃.read s₃ (k + 3),
+          item_says (slot 981 3) samples_form l₃.rest n₃ samples l₃.read s₃ (k + 3),
           item_says (slot 981 4) zones_form l₄.rest n₄ zones l₄.read s₄ (k + 4),
           item_says (slot 981 5) logs_form l₅.rest n₅ logs l₅.read s₅ (k + 5),
           worth_says l₆.rest w l₆.read (k + 6),

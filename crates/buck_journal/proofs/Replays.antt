@@ -1,5 +1,5 @@
--- What a walk through a history shows of its order, and where each posting may follow and each sheet is right it is
--- lawful.
+-- What a walk through a history shows of its order, and that a history is lawful if each posting may follow and each
+-- sheet is right.
 use Rattle.buck_journal.proofs.Words.{◌≡◌, ◌≢◌, ℕ, zero, suc, ◌+◌, ◌<◌, ◌≤◌, inl, inr, List, [], ◌∷◌, ◌++◌, length, take, slice_get, Some, refl, sym, ◌∙◌, ap, subst, arith, rules, cases_Bool, cases_lt, cases_eq, take_all, slice_get_within, slice_get_cases, same_Some, InstructionParts, IsInstruction, SheetParts, IsPriceAt, SheetFault, Posting, planned_version, ends_of, cuts_since_end, HistoryParts, IsLawful, PricesMeet, standing_of, prices_at, sheet_at, Result, Ok, Err, None, IfOk, IfErr, OnOk, WalkParts, walk_of, ReplayFault, Memory, true_false, take_one_more, ends_with_end, cuts_with_end, ends_without, meets_within, no_fault, ClassAt, class_at, base_alone, meets_to_alone, version_at, Begins, IsSheetRight, IsFaultAt, IsFaultAtEnd, IsRightBefore, along, sheet_then, IsRightUnder, IsPassed, IsInOrderBefore, IsEndRight, IsOrdered}
 use Rattle.buck_value.specs.Sheet as sheet
 use Rattle.std.proofs.Common.{below_more}
@@ -16,7 +16,7 @@ pub is_sheet : (i : InstructionParts) (ps : List Posting) (prices : List ℕ) (f
     → PricesMeet i ps prices → sheet.IsSheetFault i prices fault → ⊥
 is_sheet i ps prices fault v m wrong = no_fault i prices fault m.one_each (in_span i ps prices m) wrong
 
--- where no period begins after a posting, the version stays
+-- if no period begins after a posting, the version stays
 version_stays : (i : InstructionParts) (ps : List Posting) (k : ℕ) (x : Posting) → slice_get ps k ≡ Some x
     → cuts_since_end i (take (k + 1) ps) ≢ 0
     → ends_of i (take (k + 1) ps) ≡ ends_of i (take k ps)
@@ -74,7 +74,7 @@ one_passed h k x at before p =
           (subst (λ v. Right v k x) (sym p.posting.of_version) p.posting);
     }
 
--- and the sheet stays, where no period begins behind it
+-- and the sheet stays, if no period begins behind it
 sheet_stays : (h : HistoryParts) (k : ℕ) (x : Posting) (s : SheetParts) → slice_get h.postings k ≡ Some x
     → s ≡ sheet_then h k → (Begins h (k + 1) → ⊥) → s ≡ sheet_then h (k + 1)
 sheet_stays h k x s at is goes_on = search (rules, version_stays)

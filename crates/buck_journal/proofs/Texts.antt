@@ -86,7 +86,7 @@ posting_leads (Cut e) r rest =
     let worth : List ℕ = item_text (codes "981 6") (e.worth ∷ []) in
     subst (λ t. LeadsPostings (10 ∷ t) (Cut e ∷ []) (10 ∷ rest)) (regroup call head samples zones logs worth rest)
     (cut_leads (call_of_cut e) (e.stem.number, e.stem.species) e.stem.samples e.stem.zones e.logs e.worth
-    _ _ _ _ _ _ _ _ _ _ _
+    _ _ _ _ _ _ _ _ _ _ _ _
     (numbers_lead (slot 981 1) (codes "981 1") (e.harvester ∷ e.number ∷ e.version ∷ [])
     (head ++ (samples ++ (zones ++ (logs ++ (worth ++ rest))))) heads_are.1 (omega arith) (omega arith)
     (call_small (call_of_cut e) r.call)) (rw r.call refl)

@@ -11,7 +11,7 @@ module _ (items : List ItemParts) (k : ℕ) where
   here : (x : ItemParts) → k < length items → x ≡ get_or items k x → drop k items ≡ x ∷ drop (k + 1) items
   here x lt at = rw add-one (drop-cons items k x lt) ∙ ap (λ y. y ∷ drop (k + 1) items) (sym at)
 
-  -- what a loop has made so far, where the items from its place on are read as the rest
+  -- what a loop has made so far, if the items from its place on are read as the rest
   module _ (made : List (List ℕ)) (all : Result (List (List ℕ)) JournalFault)
       (so_far : after_front made (sheets_from k (drop k items)) ≡ all) where
     pub sheets_end : length items ≤ k → all ≡ Ok made

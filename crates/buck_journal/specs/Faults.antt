@@ -1,4 +1,4 @@
--- What is told of a journal's fault: its number, then its fields in the order of their definition. Memory that ran out
+-- How a journal's fault is reported: its number, then its fields in the order of their definition. Memory that ran out
 -- has no number.
 use Rattle.std.specs.Prelude.{ℕ, List, [], ◌∷◌}
 use Rattle.buck_journal.specs.declared.reading.fault.JournalFault.{JournalFault}

@@ -53,7 +53,7 @@ pub record AreInRange (pss : List (List ℕ)) (ps : List Posting) : Type 0 where
   pub sheets : All AreSheetPrices pss
   pub postings : All IsInRange ps
 
--- a harvester of a book, and, where it is a cut, a valid stem, whose number may be any of 32 bits
+-- a harvester of a book, and, if it is a cut, a valid stem, whose number may be any of 32 bits
 abbrev pub IsOfBook : Posting → Type 0
 IsOfBook (Cut e) = IsWithin 1 64 e.harvester × IsStem e.stem × (e.stem.number ≤ 4294967295)
 IsOfBook (Demand d) = IsWithin 1 64 d.harvester

@@ -7,7 +7,7 @@ use Rattle.buck_book.specs.declared.posting.Posting.{Posting}
 use Rattle.buck_book.specs.declared.posting.Posting.TheVariants.{Cut, Demand}
 use Rattle.buck_book.specs.Entry.{EntryParts, DemandParts}
 
--- an item: its number, a blank and its kind, then a blank before each number, then a tilde and a line feed
+-- an item: its number, a space and its kind, then a space before each number, then a tilde and a line feed
 abbrev pub item_text : List ℕ → List ℕ → List ℕ
 item_text head numbers = head ++ (spelled numbers ++ codes "~\n")
 

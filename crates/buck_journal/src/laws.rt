@@ -32,14 +32,14 @@ pub fn no_item_is_skipped()
         × (length items ≡ 1 + length journal.sheets + sum_by number_of_items journal.entries) }
 {}
 
-/// Where no item begins a demand, the items are read as in the words that know of no demand: the same journal, or the same
+/// If no item begins a demand, the items are read as in the words that know of no demand: the same journal, or the same
 /// refusal.
 #[tactic(auto, using(crate::proofs::Alone::journal_alone))]
 pub fn cuts_alone_are_read_as_before()
     ensures { (items : List ItemParts) → alone.HasNoDemand items → journal_in items ≡ alone.journal_in items }
 {}
 
-/// A lawful history of at most 1,000,000 postings lies within a journal's ranges, where its harvesters are from 1 to 64
+/// A lawful history of at most 1,000,000 postings lies within a journal's ranges, if its harvesters are from 1 to 64
 /// and its stems are valid, as they are in every book.
 #[tactic(auto, using(crate::proofs::Within::in_range))]
 pub fn histories_lie_in_range()

@@ -1,6 +1,7 @@
 //! Journals of a history: their text, and what a reader of that text gives back.
 #![tactic(auto)]
 
+mod fours;
 mod judging;
 pub mod laws;
 mod reading;

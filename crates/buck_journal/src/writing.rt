@@ -4,6 +4,7 @@ ghost use Rattle.std.specs.List.{flat_map};
 ghost use Rattle.buck_record.specs.writing.Written.{spelled};
 ghost use Rattle.buck_journal.specs.Written.{item_text, zone_numbers, log_numbers, sheet_text, cut_text, demand_text, posting_text, journal_text};
 
+use crate::fours::{put, put_four};
 use buck_book::{Demand, Entry, Posting};
 use buck_record::{Memory, put_number, put_numbers};
 use buck_stem::Stem;
@@ -11,51 +12,56 @@ use buck_value::{Log, Sheet};
 use std::alloc::Global;
 use std::sync::Arc;
 
-fn put(out: &mut Vec<u8>, text: &[u8]) -> Result<(), Memory>
-    ensures { OnOk result (out.new.items ≡ out.old.items ++ text.now) }
-{
-    out.extend_from_slice(text)?;
-    Ok(())
-}
-
-/// Puts numbers, each after a blank.
+/// Puts numbers, each after a space.
 fn put_words(out: &mut Vec<u8>, numbers: &[u32]) -> Result<(), Memory>
     ensures { OnOk result (out.new.items ≡ out.old.items ++ spelled numbers.now) }
 {
-    for number in numbers {
+    let mut rest = numbers;
+    while let [a, b, c, d, left @ ..] = rest {
+        put_four(out, *a, *b, *c, *d)?;
+        rest = left;
+    }
+    for number in rest {
         put_number(out, u128::from(*number))?;
     }
     Ok(())
 }
 
-/// Puts diameters in mm, each after a blank.
+/// Puts diameters in mm, each after a space.
 fn put_samples(out: &mut Vec<u8>, samples: &[u16]) -> Result<(), Memory>
     ensures { OnOk result (out.new.items ≡ out.old.items ++ spelled samples.now) }
 {
-    for sample in samples {
+    let mut rest = samples;
+    while let [a, b, c, d, left @ ..] = rest {
+        let (a, b) = (u32::from(*a), u32::from(*b));
+        put_four(out, a, b, u32::from(*c), u32::from(*d))?;
+        rest = left;
+    }
+    for sample in rest {
         put_number(out, u128::from(*sample))?;
     }
     Ok(())
 }
 
-/// Puts the start of each zone and its grade, each after a blank.
+/// Puts the start of each zone and its grade, each after a space.
 fn put_zones(out: &mut Vec<u8>, zones: &[(u32, u8)]) -> Result<(), Memory>
     ensures { OnOk result (out.new.items ≡ out.old.items ++ spelled (zone_numbers zones.now)) }
 {
     for zone in zones {
-        put_numbers(out, &[u128::from(zone.0), u128::from(zone.1)])?;
+        put_number(out, u128::from(zone.0))?;
+        put_number(out, u128::from(zone.1))?;
     }
     Ok(())
 }
 
-/// Puts the start, the length and the assortment of each log, each after a blank.
+/// Puts the start, the length and the assortment of each log, each after a space.
 fn put_logs(out: &mut Vec<u8>, logs: &[Log]) -> Result<(), Memory>
     ensures { OnOk result (out.new.items ≡ out.old.items ++ spelled (log_numbers logs.now)) }
 {
     for log in logs {
-        let start = u128::from(log.start);
-        let length = u128::from(log.length);
-        put_numbers(out, &[start, length, u128::from(log.assortment)])?;
+        put_number(out, u128::from(log.start))?;
+        put_number(out, u128::from(log.length))?;
+        put_number(out, u128::from(log.assortment))?;
     }
     Ok(())
 }
@@ -154,9 +160,38 @@ fn put_postings(out: &mut Vec<u8>, postings: &[Posting]) -> Result<(), Memory>
     Ok(())
 }
 
+/// A number of bytes, and so many more for each of some things.
+fn with_each(bytes: usize, things: usize, each: usize) -> usize {
+    bytes.saturating_add(things.saturating_mul(each))
+}
+
+/// How many bytes the items of a posting take at most, with all numbers at their greatest.
+fn room_of(posting: &Posting) -> usize {
+    match posting {
+        Posting::Cut(entry) => {
+            let samples = with_each(100, entry.stem.samples().len(), 5);
+            let zones = with_each(samples, entry.stem.zones().len(), 8);
+            with_each(zones, entry.cutting.logs.len(), 15)
+        }
+        Posting::Demand(demand) => with_each(40, demand.targets.len(), 8),
+    }
+}
+
+/// How many bytes the text of a journal takes at most, so that its room is made once.
+fn room_for(sheets: &[Arc<Sheet>], postings: &[Posting]) -> usize {
+    let mut room = 9usize;
+    for sheet in sheets {
+        room = room.saturating_add(with_each(7, sheet.prices().len(), 9));
+    }
+    for posting in postings {
+        room = room.saturating_add(room_of(posting));
+    }
+    room
+}
+
 /// The text of a journal: an item that says the kind of file, one for each sheet with its prices, in the order of the
-/// versions, and then the items of each posting, in their order. Each item is its number, a blank, its kind, then a
-/// blank before each number, in decimal without leading zeros, then a tilde and a line feed. Refused as [`Memory`]
+/// versions, and then the items of each posting, in their order. Each item is its number, a space, its kind, then a
+/// space before each number, in decimal without leading zeros, then a tilde and a line feed. Refused as [`Memory`]
 /// alone.
 #[tactic(auto, unfolding(crate::specs::Written::journal_text))]
 pub fn journal_text(
@@ -167,7 +202,7 @@ pub fn journal_text(
     ensures { IfOk result (λ text.
         text.items ≡ journal_text (map (λ s. s.value.prices) sheets.now) postings.now) }
 {
-    let mut out = Vec::new(alloc);
+    let mut out = Vec::with_capacity(alloc, room_for(sheets, postings))?;
     put(&mut out, b"1 2 JRN~\n")?;
     put_sheets(&mut out, sheets)?;
     put_postings(&mut out, postings)?;

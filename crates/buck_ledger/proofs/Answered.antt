@@ -5,7 +5,7 @@ use Rattle.std.specs.declared.vec.Vec.{Vec}
 use Rattle.buck_record.specs.Reading.{listed}
 use Rattle.buck_apt.specs.Apt.{apt_of}
 use Rattle.buck_apt.specs.Instruction.{InstructionParts}
-use Rattle.buck_apt.specs.Settings.{with_settings}
+use Rattle.buck_apt.specs.Settings.{SettingsParts, with_settings}
 use Rattle.buck_book.specs.History.{IsLawful}
 use Rattle.buck_book.specs.declared.posting.TheConstants.{MOST_POSTINGS}
 use Rattle.buck_journal.specs.declared.judging.fault.ReplayFault.{ReplayFault}
@@ -21,7 +21,6 @@ use Rattle.buck_terms.specs.declared.fault.TermsFault.TheVariants.{Run}
 use Rattle.buck_terms.specs.Own.{HasShapeOf}
 use Rattle.buck_terms.specs.Reading.{IsOwnFileFault}
 use Rattle.buck_ledger.specs.declared.appraisal.Appraisal.{Appraisal}
-use Rattle.buck_ledger.specs.declared.task.AppraiseTask.{AppraiseTask}
 use Rattle.buck_ledger.specs.declared.task.CompareTask.{CompareTask}
 use Rattle.buck_ledger.specs.Appraisal.{IsAppraisal}
 use Rattle.buck_ledger.specs.Comparison.{SaysTwo}
@@ -29,21 +28,21 @@ use Rattle.buck_ledger.specs.Text.{appraisal_text}
 use Rattle.buck_ledger.specs.Serving.{AnswersAppraise, AnswersCompare, HasOwner}
 
 -- no text of an appraisal
-module _ (task : AppraiseTask) (apt : Option (List ℕ)) (files : List (Option (List ℕ)))
+module _ (settings : SettingsParts) (apt : Option (List ℕ)) (files : List (Option (List ℕ)))
     (own : Option (List ℕ) × ℕ) where
   pub files_stop : {A : Type 0} (e : EngineFault) (r : Result (Vec ℕ A) TermsFault) → IsErrAnd r (λ x. x ≡ Run e)
-      → IsSeveralFault apt files e → AnswersAppraise task apt files own (listed r)
+      → IsSeveralFault apt files e → AnswersAppraise settings apt files own (listed r)
   files_stop e (Ok v) h is = absurd h
   files_stop e (Err x) h is = inl (e, h, is)
 
   pub memory_stops : {A : Type 0} (r : Result (Vec ℕ A) TermsFault) → IsErrAnd r (λ x. x ≡ Run Memory)
-      → AnswersAppraise task apt files own (listed r)
+      → AnswersAppraise settings apt files own (listed r)
   memory_stops r h = files_stop Memory r h (inl (inr (inl refl)))
 
   pub own_stops : {A : Type 0} (i : InstructionParts) (js : List JournalParts) (fault : TermsFault)
       (r : Result (Vec ℕ A) TermsFault) → IsErrAnd r (λ x. x ≡ fault)
-      → Says (apt_with task.settings) apt (Ok i) → HaveJournals files js → length (postings_of js) ≤ MOST_POSTINGS
-      → IsOwnFileFault own.1 i own.0 fault → AnswersAppraise task apt files own (listed r)
+      → Says (apt_with settings) apt (Ok i) → HaveJournals files js → length (postings_of js) ≤ MOST_POSTINGS
+      → IsOwnFileFault own.1 i own.0 fault → AnswersAppraise settings apt files own (listed r)
   own_stops i js fault (Ok v) h says have few is = absurd h
   own_stops i js fault (Err x) h says have few is = inr (inl (record {
     instruction = i;
@@ -56,11 +55,11 @@ module _ (task : AppraiseTask) (apt : Option (List ℕ)) (files : List (Option (
 
   pub replay_stops : {A : Type 0} (i : InstructionParts) (js : List JournalParts) (e : EngineFault)
       (r : Result (Vec ℕ A) TermsFault) → IsErrAnd r (λ x. x ≡ Run e)
-      → Says (apt_with task.settings) apt (Ok i) → HaveJournals files js → length (postings_of js) ≤ MOST_POSTINGS
+      → Says (apt_with settings) apt (Ok i) → HaveJournals files js → length (postings_of js) ≤ MOST_POSTINGS
       → HasOwner own.0 i
       → (e ≡ Memory) ⊎ ((place : ℕ) × (why : ReplayFault) × (e ≡ replay_fault (length js) place why)
       × IsFirstUnlawful i js place why)
-      → AnswersAppraise task apt files own (listed r)
+      → AnswersAppraise settings apt files own (listed r)
   replay_stops i js e (Ok v) h says have few owned is = absurd h
   replay_stops {A = A} i js e (Err x) h says have few owned (inl memory) =
       memory_stops {A = A} (Err x) (h ∙ ap (λ f. Run f) memory)
@@ -82,10 +81,10 @@ module _ (task : AppraiseTask) (apt : Option (List ℕ)) (files : List (Option (
   }))
 
   pub appraised_so : (i owner : InstructionParts) (js : List JournalParts) (text : List ℕ)
-      → Says (apt_with task.settings) apt (Ok i) → HaveJournals files js → length (postings_of js) ≤ MOST_POSTINGS
+      → Says (apt_with settings) apt (Ok i) → HaveJournals files js → length (postings_of js) ≤ MOST_POSTINGS
       → Says apt_of own.0 (Ok owner) → HasShapeOf i owner → AreLawful i js
       → (p : Appraisal) × IsAppraisal owner (postings_of js) p × (text ≡ appraisal_text i p)
-      → AnswersAppraise task apt files own (Ok text)
+      → AnswersAppraise settings apt files own (Ok text)
   appraised_so i owner js text says have few own_says shape lawful (p, is, text_is) = record {
     instruction = i;
     journals = js;

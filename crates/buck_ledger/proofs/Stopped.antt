@@ -6,6 +6,7 @@ use Rattle.std.specs.Io.KnownBytes.{Appends}
 use Rattle.std.proofs.KnownBytes.{Keeps-refl}
 use Rattle.buck_apt.specs.Instruction.{InstructionParts}
 use Rattle.buck_apt.specs.Apt.{apt_of}
+use Rattle.buck_apt.specs.Settings.{SettingsParts}
 use Rattle.buck_journal.specs.reading.Journal.{journal_of}
 use Rattle.buck_engine.specs.declared.fault.EngineFault.{EngineFault}
 use Rattle.buck_engine.specs.declared.fault.EngineFault.TheVariants.{Read, Write, Apt, Stm, Journal, JournalOf, Replay, ReplayOf, Check, Seats, Full, Memory, Close}
@@ -17,7 +18,6 @@ use Rattle.buck_terms.specs.declared.fault.TermsFault.TheVariants.{Run, Targets,
 use Rattle.buck_engine.specs.run.Opening.{AnswersInputs}
 use Rattle.buck_terms.specs.Reading.{AnswersLast, IsOwnFileFault}
 use Rattle.buck_terms.specs.Telling.{WritesTerms}
-use Rattle.buck_ledger.specs.declared.task.AppraiseTask.{AppraiseTask}
 use Rattle.buck_ledger.specs.declared.task.CompareTask.{CompareTask}
 use Rattle.buck_ledger.specs.Comparison.{IsCompareFault}
 use Rattle.buck_ledger.specs.declared.opened.Opened.{Opened}
@@ -53,16 +53,16 @@ own_no_write number i file fault (inl (inr is)) = subst IsNotWrite (sym is) tt
 own_no_write number i file fault (inr (inl is)) = subst IsNotWrite (sym is.1) tt
 own_no_write number i file fault (inr (inr is)) = subst IsNotWrite (sym is.2) tt
 
-appraise_no_write : (task : AppraiseTask) (apt : Option (List ℕ)) (files : List (Option (List ℕ)))
-    (own : Option (List ℕ) × ℕ) (fault : TermsFault) → IsAppraiseFault task apt files own fault → IsNotWrite fault
-appraise_no_write task apt files own fault (inl is) =
+appraise_no_write : (settings : SettingsParts) (apt : Option (List ℕ)) (files : List (Option (List ℕ)))
+    (own : Option (List ℕ) × ℕ) (fault : TermsFault) → IsAppraiseFault settings apt files own fault → IsNotWrite fault
+appraise_no_write settings apt files own fault (inl is) =
     subst IsNotWrite (sym is.1) (several_no_write apt files is.0 is.2)
-appraise_no_write task apt files own fault (inr (inl have)) =
+appraise_no_write settings apt files own fault (inr (inl have)) =
     own_no_write own.1 have.instruction own.0 fault have.holds
-appraise_no_write task apt files own fault (inr (inr have)) =
+appraise_no_write settings apt files own fault (inr (inr have)) =
     subst IsNotWrite (sym have.holds.1.2) (replay_no_write (length files == 1) have.holds.1.0 have.holds.1.1)
 
--- nothing is written where the answer is a fault
+-- nothing is written if the answer is a fault
 stopped : (Answers : Result (List ℕ) TermsFault → Type 0) (old : Option (List ℕ)) (fault : TermsFault)
     → IsNotWrite fault → Answers (Err fault) → WritesTerms Answers old old (Err fault)
 stopped Answers old (Run (Read file)) other a = (a, Keeps-refl old)
@@ -81,14 +81,14 @@ stopped Answers old (Run (Close why)) other a = (a, Keeps-refl old)
 stopped Answers old (Targets why) other a = (a, Keeps-refl old)
 stopped Answers old (Own why) other a = (a, Keeps-refl old)
 
-pub appraise_stopped : (task : AppraiseTask) (apt : Option (List ℕ)) (files : List (Option (List ℕ)))
+pub appraise_stopped : (settings : SettingsParts) (apt : Option (List ℕ)) (files : List (Option (List ℕ)))
     (own : Option (List ℕ) × ℕ) (old : Option (List ℕ)) (fault : TermsFault) (r : Result (Unit {0}) TermsFault)
-    → IsErrAnd r (λ x. x ≡ fault) → AnswersAppraise task apt files own (Err fault)
-    → WritesTerms (AnswersAppraise task apt files own) old old r
-appraise_stopped task apt files own old fault (Ok u) h a = absurd h
-appraise_stopped task apt files own old fault (Err x) h a =
-    subst (λ (f : TermsFault). WritesTerms (AnswersAppraise task apt files own) old old (Err f)) (sym h)
-    (stopped (AnswersAppraise task apt files own) old fault (appraise_no_write task apt files own fault a) a)
+    → IsErrAnd r (λ x. x ≡ fault) → AnswersAppraise settings apt files own (Err fault)
+    → WritesTerms (AnswersAppraise settings apt files own) old old r
+appraise_stopped settings apt files own old fault (Ok u) h a = absurd h
+appraise_stopped settings apt files own old fault (Err x) h a =
+    subst (λ (f : TermsFault). WritesTerms (AnswersAppraise settings apt files own) old old (Err f)) (sym h)
+    (stopped (AnswersAppraise settings apt files own) old fault (appraise_no_write settings apt files own fault a) a)
 
 -- a text is written, or a part of it
 pub terms_written : (Answers : Result (List ℕ) TermsFault → Type 0) (old new : Option (List ℕ)) (text : List ℕ)

@@ -18,7 +18,7 @@ pub record IsAccount (own : InstructionParts) (ps bought best : List Posting) (a
   pub as_cut : IsPaidFor own ps bought a.cut
   pub at_best : IsPaidFor own best best a.best
 
--- what those of a harvester come to, where it has a posting
+-- what those of a harvester come to, if it has a posting
 abbrev pub IsAccountOf : InstructionParts → ℕ → List Posting → List Posting → List Posting → Option Account → Type 0
 IsAccountOf own h ps bought best None = (own_of h ps ≡ []) × (own_of h bought ≡ []) × (own_of h best ≡ [])
 IsAccountOf own h ps bought best (Some a) =

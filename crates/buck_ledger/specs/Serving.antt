@@ -3,6 +3,7 @@ use Rattle.std.specs.Prelude.{◌≡◌, ◌⊎◌, ◌≤◌, ℕ, ◌+◌, Lis
 use Rattle.std.specs.Io.KnownBytes.{Keeps}
 use Rattle.buck_apt.specs.Apt.{apt_of}
 use Rattle.buck_apt.specs.Instruction.{InstructionParts}
+use Rattle.buck_apt.specs.Settings.{SettingsParts}
 use Rattle.buck_book.specs.declared.posting.TheConstants.{MOST_POSTINGS}
 use Rattle.buck_journal.specs.reading.Journal.{JournalParts}
 use Rattle.buck_figures.specs.Journals.{postings_of}
@@ -26,13 +27,13 @@ use Rattle.buck_ledger.specs.Comparison.{AreBothLawful, IsCompareFault, SaysTwo}
 
 -- the text of an appraisal over files: of lawful journals of the instruction, of at most 1,000,000 postings together,
 -- under an owner's instruction that may stand beside it
-pub record IsAppraised (task : AppraiseTask) (apt : Option (List ℕ)) (files : List (Option (List ℕ)))
+pub record IsAppraised (settings : SettingsParts) (apt : Option (List ℕ)) (files : List (Option (List ℕ)))
     (own : Option (List ℕ)) (text : List ℕ) : Type 0 where
   pub instruction : InstructionParts
   pub journals : List JournalParts
   pub owner : InstructionParts
   pub appraisal : Appraisal
-  pub apt_says : Says (apt_with task.settings) apt (Ok instruction)
+  pub apt_says : Says (apt_with settings) apt (Ok instruction)
   pub journals_say : HaveJournals files journals
   pub few : length (postings_of journals) ≤ MOST_POSTINGS
   pub own_says : Says apt_of own (Ok owner)
@@ -47,19 +48,19 @@ HasOwner own i = (owner : InstructionParts) × Says apt_of own (Ok owner) × Has
 
 -- why there is none: as of journals that are shown; or the owner's instruction is refused; or, if it isn't, a journal
 -- isn't lawful
-abbrev pub IsAppraiseFault : AppraiseTask → Option (List ℕ) → List (Option (List ℕ)) → Option (List ℕ) × ℕ → TermsFault
+abbrev pub IsAppraiseFault : SettingsParts → Option (List ℕ) → List (Option (List ℕ)) → Option (List ℕ) × ℕ → TermsFault
     → Type 0
-IsAppraiseFault task apt files own fault =
+IsAppraiseFault settings apt files own fault =
     ((why : EngineFault) × (fault ≡ Run why) × IsSeveralFault apt files why)
-    ⊎ (HaveSeveral (apt_with task.settings) (λ i js. IsOwnFileFault own.1 i own.0 fault) apt files
-    ⊎ HaveSeveral (apt_with task.settings) (λ i js. HasOwner own.0 i × ((place : ℕ) × (why : _)
+    ⊎ (HaveSeveral (apt_with settings) (λ i js. IsOwnFileFault own.1 i own.0 fault) apt files
+    ⊎ HaveSeveral (apt_with settings) (λ i js. HasOwner own.0 i × ((place : ℕ) × (why : _)
     × (fault ≡ Run (replay_fault (length files) place why)) × IsFirstUnlawful i js place why)) apt files)
 
 -- the text of an appraisal, or why there is none
-abbrev pub AnswersAppraise : AppraiseTask → Option (List ℕ) → List (Option (List ℕ)) → Option (List ℕ) × ℕ
+abbrev pub AnswersAppraise : SettingsParts → Option (List ℕ) → List (Option (List ℕ)) → Option (List ℕ) × ℕ
     → Result (List ℕ) TermsFault → Type 0
-AnswersAppraise task apt files own (Ok text) = IsAppraised task apt files own.0 text
-AnswersAppraise task apt files own (Err fault) = IsAppraiseFault task apt files own fault
+AnswersAppraise settings apt files own (Ok text) = IsAppraised settings apt files own.0 text
+AnswersAppraise settings apt files own (Err fault) = IsAppraiseFault settings apt files own fault
 
 pub record OpensOwn {O F : Type 0} (opens : O → List ℕ → Option F → O → Type 0) (old new : O) (apt : List ℕ)
     (journals : List (List ℕ)) (own : List ℕ) (files : Opened F) : Type 0 where
@@ -85,8 +86,8 @@ AnswersFiles {F = F} opens old new apt journals own (Err fault) =
 abbrev pub AppraisesOpened : {F : Type 0} → (F → Option (List ℕ)) → AppraiseTask → Result (Opened F) EngineFault
     → Option (List ℕ) → Option (List ℕ) → Result (Unit {0}) TermsFault → Type 0
 AppraisesOpened held task (Ok files) old new outcome =
-    WritesTerms (AnswersAppraise task (held files.apt) (map held files.journals.items) (held files.own.0, files.own.1))
-    old new outcome
+    WritesTerms (AnswersAppraise task.settings (held files.apt) (map held files.journals.items)
+    (held files.own.0, files.own.1)) old new outcome
 AppraisesOpened held task (Err fault) old new outcome = (outcome ≡ Err (Run fault)) × Keeps old new
 
 pub record RunsAppraise {O F : Type 0} (opens : O → List ℕ → Option F → O → Type 0) (held : F → Option (List ℕ))

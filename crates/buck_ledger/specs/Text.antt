@@ -17,7 +17,7 @@ columns =
     codes "line,number,stems,logs,best_logs,unbought_logs,volume_cm3,best_volume_cm3,"
     ++ codes "worth_millionths,best_worth_millionths,loss_millionths,loss_ten_thousandths,name\n"
 
--- what is lost of the best, with a minus sign where what was cut brings more
+-- what is lost of the best, with a minus sign if what was cut brings more
 abbrev pub loss_cell : ℕ → ℕ → List ℕ
 loss_cell cut best = cond (nat_lt best cut) (signed_cell true (cut - best)) (signed_cell false (best - cut))
 
@@ -28,7 +28,7 @@ paid_cells cut best =
     (cut.logs ∷ best.logs ∷ cut.unbought ∷ cut.volume ∷ best.volume ∷ cut.worth ∷ best.worth ∷ [])
     ++ loss_cell cut.worth best.worth
 
--- what is lost of the best, in ten-thousandths, to the nearest; 0 where that is nothing
+-- what is lost of the best, in ten-thousandths, to the nearest; 0 if that is nothing
 abbrev pub loss_rate : Account → ℕ
 loss_rate a = cond (a.best.worth == 0) 0 (half_up (10000 * (a.best.worth - a.cut.worth)) a.best.worth)
 

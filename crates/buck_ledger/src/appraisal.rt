@@ -88,7 +88,7 @@ fn account_of(
     }
 }
 
-/// What journals bring under an owner's instruction.
+/// The appraisal of journals under an owner's instruction.
 #[derive(Drop)]
 pub struct Appraisal {
     /// By the harvester's number, from 1: those that have a posting.
@@ -170,9 +170,9 @@ fn base_planner(alloc: Global, instruction: Instruction) -> Result<Planner, Memo
     Ok(Planner::make(alloc, Arc::new(alloc, base)?)?)
 }
 
-/// What journals of at most 1,000,000 postings together bring under an owner's instruction, and what the best cuttings
-/// under it would have brought: each stem is planned once more. The journals are each lawful for an instruction beside
-/// which the owner's may stand. No loss of a harvester or of all is below 0. Refused as `Memory` alone.
+/// Appraises journals of at most 1,000,000 postings together under an owner's instruction, beside the best cuttings
+/// under it: plans each stem once more. The journals are each lawful for an instruction beside which the owner's may
+/// stand. No loss of a harvester or of all is below 0. Refused as `Memory` alone.
 pub fn appraise(alloc: Global, own: Instruction, journals: &[Journal]) -> Result<Appraisal, Memory>
     requires few { length (postings_of journals.now) ≤ MOST_POSTINGS }
     requires lawful { (i : InstructionParts) × HasShapeOf i own × All (λ j. IsLawful (history_of i j)) journals.now }

@@ -15,14 +15,12 @@ use crate::appraisal::appraise;
 use crate::lines::appraisal_text;
 use crate::opened::Opened;
 use crate::replayed::check_lawful;
-use crate::task::AppraiseTask;
-use buck_apt::Instruction;
-use buck_engine::{Journals, number_of_threads, read_several, write_text};
+use buck_apt::{Instruction, Settings};
+use buck_engine::{Journals, Workers, read_several, write_text};
 use buck_record::Memory;
 use buck_terms::{TermsFault, read_own};
 use std::alloc::Global;
 use std::io;
-use std::thread::Threads;
 
 /// The text of an appraisal of lawful journals.
 fn text_of(alloc: Global, several: &Journals, own: Instruction) -> Result<Vec<u8>, Memory>
@@ -39,13 +37,14 @@ fn text_of(alloc: Global, several: &Journals, own: Instruction) -> Result<Vec<u8
 
 /// The text of an appraisal over files, or why there is none.
 #[tactic(auto, using(crate::proofs::Answered::appraised))]
-fn answer_of<T: Threads + Sync, R: io::Read + Drop>(
-    rt: &T,
+fn answer_of<T: Workers, R: io::Read + Drop>(
+    workers: &T,
     alloc: Global,
-    task: &AppraiseTask<'_>,
+    settings: &Settings,
     files: Opened<R>,
 ) -> Result<Vec<u8>, TermsFault>
-    ensures { AnswersAppraise task.now (R.remaining files.apt) (map R.remaining files.journals.items)
+    requires share { T.can_share }
+    ensures { AnswersAppraise settings.now (R.remaining files.apt) (map R.remaining files.journals.items)
         (R.remaining files.own.0, files.own.1) (listed result) }
 {
     let Opened {
@@ -54,11 +53,10 @@ fn answer_of<T: Threads + Sync, R: io::Read + Drop>(
         own,
     } = files;
     let (mut reader, file) = own;
-    let threads = number_of_threads(rt, task.threads);
     let journals = journals.as_mut_slice();
-    let several = read_several(rt, alloc, threads, &mut apt, journals, &task.settings)?;
+    let several = read_several(workers, alloc, &mut apt, journals, settings)?;
     let own = read_own(alloc, &mut reader, file, &several.instruction)?;
-    check_lawful(rt, alloc, threads, &several)?;
+    check_lawful(workers, alloc, &several)?;
     Ok(text_of(alloc, &several, own)?)
 }
 
@@ -66,22 +64,23 @@ fn answer_of<T: Threads + Sync, R: io::Read + Drop>(
 /// that: a line of columns, and then a line for each harvester, for each assortment and for all. Nothing is written
 /// before the whole text is there.
 ///
-/// The instruction file is read first, then the journals, and then the owner's instruction, each refused where it must
-/// be before the next is read, as by [`read_several`](buck_engine::read_several) and
+/// The instruction file is read first, then the journals, and then the owner's instruction; each is refused, if it must
+/// be, before the next is read, as by [`read_several`](buck_engine::read_several) and
 /// [`read_own`](buck_terms::read_own). Then each journal is replayed, and the first that isn't lawful is the fault,
-/// `Replay` or `ReplayOf`. `Write` where the writer fails, which leaves a prefix of the text, and `Memory` where a
-/// growth was refused.
+/// `Replay` or `ReplayOf`. `Write` if the writer fails, which leaves a prefix of the text, and `Memory` if an
+/// allocation failed.
 #[tactic(auto, using(crate::proofs::Stopped::terms))]
-pub fn run_appraise<T: Threads + Sync, R: io::Read + Drop, W: io::Write>(
-    rt: &T,
+pub fn run_appraise<T: Workers, R: io::Read + Drop, W: io::Write>(
+    workers: &T,
     alloc: Global,
-    task: &AppraiseTask<'_>,
+    settings: &Settings,
     files: Opened<R>,
     out: &mut W,
 ) -> Result<(), TermsFault>
-    ensures { WritesTerms (AnswersAppraise task.now (R.remaining files.apt) (map R.remaining files.journals.items)
+    requires share { T.can_share }
+    ensures { WritesTerms (AnswersAppraise settings.now (R.remaining files.apt) (map R.remaining files.journals.items)
         (R.remaining files.own.0, files.own.1)) (W.contents out.old) (W.contents out.new) result }
 {
-    let text = answer_of(rt, alloc, task, files)?;
+    let text = answer_of(workers, alloc, settings, files)?;
     Ok(write_text(out, text.as_slice())?)
 }

@@ -100,7 +100,7 @@ fn wide(degree: Option<u32>) -> Option<Figure> {
     }
 }
 
-/// The lesser of two degrees, where there are both.
+/// The lesser of two degrees, or the only one.
 fn lesser(one: Option<u32>, other: Option<u32>) -> Option<u32> {
     match (one, other) {
         (None, other) => other,
@@ -180,7 +180,7 @@ fn own_free(free: &GradeFree, harvester: u32) -> u128
     }
 }
 
-/// The figures of a harvester, none where it has no posting.
+/// The figures of a harvester, none if it has no posting.
 fn figures_of_harvester(run: &Run<'_>, harvester: u32) -> [Option<Figure>; 7] {
     let Some(own) = run.figures.harvesters.get(&harvester) else {
         return [None; 7];

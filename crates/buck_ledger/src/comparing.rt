@@ -14,16 +14,15 @@ use crate::compared::{Run, comparison_text};
 use crate::task::CompareTask;
 use buck_apt::{Instruction, Settings};
 use buck_dp::Planner;
-use buck_engine::{EngineFault, number_of_threads, read_several, write_text};
+use buck_engine::{EngineFault, Workers, read_several, write_text};
 use buck_figures::{figures_of, grade_free_of};
-use buck_journal::{Journal, ReplayFault, replay_in_parts};
+use buck_journal::{Journal, ReplayFault};
 use buck_record::Memory;
 use buck_value::Sheet;
 use std::alloc::Global;
 use std::io;
 use std::slice::from_ref;
 use std::sync::Arc;
-use std::thread::Threads;
 
 /// The instruction with a run's numbers in the place of its own.
 fn instruction_with(
@@ -37,21 +36,20 @@ fn instruction_with(
 }
 
 /// That a journal is lawful for an instruction, else its first fault, with the journal's number.
-fn check_one<T: Threads + Sync>(
-    rt: &T,
+fn check_one<T: Workers>(
+    workers: &T,
     alloc: Global,
-    threads: usize,
     instruction: &Arc<Instruction>,
     journal: &Journal,
     number: u32,
 ) -> Result<(), EngineFault>
-    requires threads { 0 < threads }
+    requires share { T.can_share }
     requires few { length journal.now.entries ≤ MOST_POSTINGS }
     ensures lawful { OnOk result (IsLawful (history_of instruction.now.value journal.now)) }
     ensures refused { IfErr result (λ e. (e ≡ EngineFault.Memory) ⊎ ((why : ReplayFault) × (e ≡ ReplayOf number why)
         × IsFirstFault (history_of instruction.now.value journal.now) why)) }
 {
-    match replay_in_parts(rt, alloc, threads, instruction, journal) {
+    match workers.replay(alloc, instruction, journal) {
         Ok(()) => Ok(()),
         Err(fault) => match fault {
             ReplayFault::Memory => Err(EngineFault::Memory),
@@ -100,24 +98,24 @@ fn text_of(
 
 /// The text of a comparison over files, or why there is none.
 #[tactic(auto, using(crate::proofs::Answered::compared))]
-fn answer_of<T: Threads + Sync, R: io::Read>(
-    rt: &T,
+fn answer_of<T: Workers, R: io::Read>(
+    workers: &T,
     alloc: Global,
     task: &CompareTask<'_>,
     apt: &mut R,
     journals: &mut [R],
 ) -> Result<Vec<u8>, EngineFault>
+    requires share { T.can_share }
     requires two { length journals.old ≡ 2 }
     ensures { AnswersCompare task.now (R.remaining apt.old) (map R.remaining journals.old) (listed result) }
 {
-    let threads = number_of_threads(rt, task.threads);
-    let several = read_several(rt, alloc, threads, apt, journals, &Settings::own())?;
+    let several = read_several(workers, alloc, apt, journals, &Settings::own())?;
     let one = &several.journals[0];
     let other = &several.journals[1];
     let first = instruction_with(alloc, &several.instruction, &task.first)?;
     let second = instruction_with(alloc, &several.instruction, &task.second)?;
-    check_one(rt, alloc, threads, &first, one, 1)?;
-    check_one(rt, alloc, threads, &second, other, 2)?;
+    check_one(workers, alloc, &first, one, 1)?;
+    check_one(workers, alloc, &second, other, 2)?;
     Ok(text_of(alloc, &first, one, &second, other)?)
 }
 
@@ -125,21 +123,22 @@ fn answer_of<T: Threads + Sync, R: io::Read>(
 /// is written before the whole text is there.
 ///
 /// The files are read, and refused, as by [`read_several`](buck_engine::read_several). Then each journal is replayed
-/// with numbers of its own in the place of the instruction's; the first that isn't lawful is `ReplayOf`. `Write` where
-/// the writer fails, which leaves a prefix of the text, and `Memory` where a growth was refused.
+/// with numbers of its own in the place of the instruction's; the first that isn't lawful is `ReplayOf`. `Write` if the
+/// writer fails, which leaves a prefix of the text, and `Memory` if an allocation failed.
 #[tactic(auto, using(crate::proofs::Stopped::texts))]
-pub fn run_compare<T: Threads + Sync, R: io::Read, W: io::Write>(
-    rt: &T,
+pub fn run_compare<T: Workers, R: io::Read, W: io::Write>(
+    workers: &T,
     alloc: Global,
     task: &CompareTask<'_>,
     apt: &mut R,
     journals: &mut [R],
     out: &mut W,
 ) -> Result<(), EngineFault>
+    requires share { T.can_share }
     requires two { length journals.old ≡ 2 }
     ensures { WritesText (AnswersCompare task.now (R.remaining apt.old) (map R.remaining journals.old))
         (W.contents out.old) (W.contents out.new) result }
 {
-    let text = answer_of(rt, alloc, task, apt, journals)?;
+    let text = answer_of(workers, alloc, task, apt, journals)?;
     write_text(out, text.as_slice())
 }

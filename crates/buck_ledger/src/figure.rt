@@ -26,7 +26,7 @@ pub(crate) fn put_figure(out: &mut Vec<u8>, figure: Option<Figure>) -> Result<()
     }
 }
 
-/// The difference of two figures, where there are both.
+/// The difference of two figures, if there are both.
 pub(crate) fn change_of(first: Option<Figure>, second: Option<Figure>) -> Option<Change> {
     match (first, second) {
         (Some(first), Some(second)) => Some(Change {

@@ -8,7 +8,7 @@ ghost use Rattle.buck_figures.specs.Figures.{base_sheet};
 ghost use Rattle.buck_terms.specs.Own.{HasShapeOf};
 ghost use Rattle.buck_ledger.specs.Paid.{AreBought};
 
-/// The logs of a cutting that an owner's instruction buys are a cutting under it, where it may stand beside the other
+/// The logs of a cutting that an owner's instruction buys are a cutting under it, if it may stand beside the other
 /// instruction: the logs that are left out leave room, and the others keep theirs.
 #[tactic(auto, using(crate::proofs::Bought::can_be_cut))]
 pub fn what_is_bought_can_be_cut()

@@ -16,7 +16,7 @@ const HEAD: &[u8] =
     b"line,number,stems,logs,best_logs,unbought_logs,volume_cm3,best_volume_cm3,worth_millionths,best_worth_millionths,\
 loss_millionths,loss_ten_thousandths,name\n";
 
-/// What is lost of the best, in ten-thousandths, to the nearest; 0 where that is nothing.
+/// What is lost of the best, in ten-thousandths, to the nearest; 0 if that is nothing.
 fn loss_rate(account: &Account) -> u128
     ensures { result ≡ loss_rate account.now }
 {

@@ -1,8 +1,8 @@
-//! What logs come to under an owner's instruction.
+//! The worth of logs under an owner's instruction.
 ghost use Rattle.std.specs.Prelude.{◌*◌, ◌<◌, ◌≤◌, ◌^◌};
 ghost use Rattle.buck_book.specs.declared.posting.TheConstants.{MOST_POSTINGS};
 
-/// What some logs come to under an owner's instruction, at its base prices.
+/// The sums of some logs under an owner's instruction, at its base prices.
 #[derive(Clone, Copy)]
 pub struct Paid {
     /// Number of logs.
@@ -26,7 +26,7 @@ impl Paid {
     };
 }
 
-/// What the logs of some stems come to, as cut, and of the best cuttings under an owner's instruction.
+/// The sums of some stems under an owner's instruction: of their logs as cut, and of the best cuttings.
 #[derive(Clone, Copy)]
 pub struct Account {
     /// Number of stems.

@@ -6,12 +6,11 @@ ghost use Rattle.buck_figures.specs.Journals.{postings_of};
 ghost use Rattle.buck_engine.specs.declared.fault.EngineFault.TheVariants.{Memory};
 ghost use Rattle.buck_engine.specs.run.Several.{AreLawful, IsFirstUnlawful, replay_fault};
 
-use buck_engine::{EngineFault, FirstUnlawful, Journals, replay_several};
+use buck_engine::{EngineFault, FirstUnlawful, Journals, Workers, replay_several};
 use buck_journal::ReplayFault;
 use std::alloc::Global;
-use std::thread::Threads;
 
-/// The fault of the first of so many journals that isn't lawful: it has the journal's number, where there are several.
+/// The fault of the first of so many journals that isn't lawful: it has the journal's number, if there are several.
 fn unlawful_of(number: usize, place: usize, fault: ReplayFault) -> EngineFault
     requires { (place < number) × (number ≤ 64) }
     ensures { result ≡ replay_fault number place fault }
@@ -26,14 +25,13 @@ fn unlawful_of(number: usize, place: usize, fault: ReplayFault) -> EngineFault
     }
 }
 
-/// That each journal is lawful, found in at most so many threads at once; else the first fault of the first that isn't.
-pub(crate) fn check_lawful<T: Threads + Sync>(
-    rt: &T,
+/// That each journal is lawful; else the first fault of the first that isn't.
+pub(crate) fn check_lawful<T: Workers>(
+    workers: &T,
     alloc: Global,
-    threads: usize,
     several: &Journals,
 ) -> Result<(), EngineFault>
-    requires threads { 0 < threads }
+    requires share { T.can_share }
     requires number { length several.now.journals.items ≤ 64 }
     requires few { length (postings_of several.now.journals.items) ≤ MOST_POSTINGS }
     ensures lawful { OnOk result (AreLawful several.now.instruction.value several.now.journals.items) }
@@ -41,7 +39,7 @@ pub(crate) fn check_lawful<T: Threads + Sync>(
         ⊎ ((place : ℕ) × (why : ReplayFault) × (e ≡ replay_fault (length several.now.journals.items) place why)
         × IsFirstUnlawful several.now.instruction.value several.now.journals.items place why)) }
 {
-    match replay_several(rt, alloc, threads, several) {
+    match replay_several(workers, alloc, several) {
         Ok(()) => Ok(()),
         Err(FirstUnlawful { place, fault }) => match fault {
             ReplayFault::Memory => Err(EngineFault::Memory),

@@ -6,7 +6,7 @@ use crate::appraised::run_appraise;
 use crate::comparing::run_compare;
 use crate::opened::Opened;
 use crate::task::{AppraiseTask, CompareTask};
-use buck_engine::{EngineFault, Open, open_inputs};
+use buck_engine::{EngineFault, Open, SeveralThreads, open_inputs};
 use buck_terms::{TermsFault, open_last};
 use std::alloc::Global;
 use std::io;
@@ -41,7 +41,8 @@ pub fn serve_appraise<T: Threads + Sync, O: Open, W: io::Write>(
         (W.contents out.old) (W.contents out.new) result }
 {
     let files = open_files(alloc, task, opener)?;
-    run_appraise(rt, alloc, task, files, out)
+    let workers = SeveralThreads::of(rt, task.threads);
+    run_appraise(&workers, alloc, &task.settings, files, out)
 }
 
 /// Compares the journals of a task's files. They are opened as by [`serve_appraise`]; else the faults are those of
@@ -57,5 +58,13 @@ pub fn serve_compare<T: Threads + Sync, O: Open, W: io::Write>(
         (W.contents out.old) (W.contents out.new) result }
 {
     let (mut apt, mut journals) = open_inputs(alloc, opener, task.apt, &task.journals)?;
-    run_compare(rt, alloc, task, &mut apt, journals.as_mut_slice(), out)
+    let workers = SeveralThreads::of(rt, task.threads);
+    run_compare(
+        &workers,
+        alloc,
+        task,
+        &mut apt,
+        journals.as_mut_slice(),
+        out,
+    )
 }

@@ -3,7 +3,7 @@ ghost use Rattle.std.specs.Prelude.{◌<◌, ◌≤◌, vec_len};
 
 use buck_apt::Settings;
 
-/// What the words of the command line ask of an appraisal.
+/// The arguments of an appraisal.
 #[derive(Drop)]
 pub struct AppraiseTask<'a> {
     /// The numbers that are put in the place of the instruction's own.
@@ -14,12 +14,12 @@ pub struct AppraiseTask<'a> {
     pub journals: Vec<&'a str>,
     /// The name of the file of the owner's instruction.
     pub own: &'a str,
-    /// How many threads may look for outvalued cuts at once; where nothing is said, as many as the machine has.
+    /// How many threads may look for outvalued cuts at once; if nothing is said, as many as the machine has.
     pub threads: Option<u8>,
     ghost number: { (0 < vec_len journals) × (vec_len journals ≤ 64) },
 }
 
-/// What the words of the command line ask of a comparison.
+/// The arguments of a comparison.
 #[derive(Drop)]
 pub struct CompareTask<'a> {
     /// The numbers that are put in the place of the instruction's own for the first journal.
@@ -30,6 +30,6 @@ pub struct CompareTask<'a> {
     pub apt: &'a str,
     /// The names of the two journals.
     pub journals: [&'a str; 2],
-    /// How many threads may look for outvalued cuts at once; where nothing is said, as many as the machine has.
+    /// How many threads may look for outvalued cuts at once; if nothing is said, as many as the machine has.
     pub threads: Option<u8>,
 }

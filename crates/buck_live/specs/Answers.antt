@@ -91,7 +91,7 @@ pub record JudgesOwn (before : HistoryParts) (stem : StemParts) (own : List Log)
   pub is_best : IsFirstBest (in_force before) stem best
   pub text_is : text ≡ own_line stem own (cutting_worth (in_force before) stem best) judged
 
--- what is answered where a posting has room, and that the history is full where it hasn't
+-- what is answered if a posting has room, and that the history is full if it hasn't
 abbrev pub IfRoom : HistoryParts → List ℕ → HistoryParts → Type 0 → Type 0
 IfRoom before text after Posts =
     ((length before.postings ≡ MOST_POSTINGS) × SaysOnly (fault_line Full) before text after)

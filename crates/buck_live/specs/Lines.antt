@@ -10,7 +10,7 @@ longest_line = 1048576
 abbrev pub is_feed : ℕ → Bool
 is_feed b = b == 10
 
--- a line that a line feed ended, by its bytes before that; none where it is too long
+-- a line that a line feed ended, by its bytes before that; none if it is too long
 abbrev pub ended_line : List ℕ → Option (List ℕ)
 ended_line bytes = if nat_le (length bytes) longest_line then Some bytes else None
 
@@ -22,11 +22,11 @@ is_end_of_item (Some b) = b == 126
 abbrev pub last_byte : List ℕ → Option ℕ
 last_byte bytes = find (λ b. not (is_white b)) (reverse bytes)
 
--- white bytes aside, some bytes end with a tilde, or there are none
+-- whitespace aside, some bytes end with a tilde, or there are none
 abbrev pub is_finished : List ℕ → Bool
 is_finished bytes = is_end_of_item (last_byte bytes)
 
--- the bytes after the last line feed are a line where they aren't too long and whoever wrote them came to an end
+-- the bytes after the last line feed are a line if they aren't too long and whoever wrote them came to an end
 abbrev pub last_line : List ℕ → Option (List ℕ)
 last_line bytes = if nat_le (length bytes) longest_line && is_finished bytes then Some bytes else None
 

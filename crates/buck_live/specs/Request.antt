@@ -2,12 +2,12 @@
 -- item in the order of the table.
 --
 --   item        what it says                          how many numbers   range of each   order
---   HARVESTER   the harvester; where it is absent,    1                  1 to 64         before the others
+--   HARVESTER   the harvester; if it is absent,       1                  1 to 64         before the others
 --               the first
 --   STEM ..     a stem: its four items, as in a stem file
 --   PREVIEW     the stem is previewed                 1                  1
---   OWN         the logs that an operator would cut,  three for each     0 to HIGHEST, by
---               each as start, length, assortment     of at most         turns
+--   OWN         the logs that an operator would cut,  three for each     0 to HIGHEST
+--               each as start, length, assortment     of at most         in turn
 --                                                     MOST_OWN
 --   TARGETS     new targets                           any                any
 --
@@ -40,17 +40,13 @@ use Rattle.buck_live.specs.declared.request.Request.{Request}
 abbrev pub has : Slot → List ItemParts → Bool
 has s items = nat_lt 0 (count_in s items)
 
--- a stem has all its items, and where there is none there are targets
-abbrev pub all_there : List ItemParts → Result (Unit {0}) StmFault
-all_there items =
-    if has STEM items then none_of (first_missing NEEDED items) Missing
-    else check (has TARGETS items) (of_slot Missing STEM)
-
--- Line 3, Missing: no item of a stem stands before its number, and what is asked for is all there.
+-- Line 3, Missing: no item of a stem stands before its number; a stem has all its items, and if there is none there
+-- are targets.
 unfoldable pub present : List ItemParts → Result (Unit {0}) StmFault
 present items = do
   _ ← check (has_no_strays STEM AFTER_STEM items) (of_slot Missing STEM)
-  all_there items
+  if has STEM items then none_of (first_missing NEEDED items) Missing
+      else check (has TARGETS items) (of_slot Missing STEM)
 
 -- Line 4, Twice: no item stands twice, and targets don't stand beside a stem.
 unfoldable pub single : List ItemParts → Result (Unit {0}) StmFault
@@ -58,18 +54,14 @@ single items = do
   _ ← none_of (first_twice TABLE items) Twice
   check (not (has STEM items && has TARGETS items)) (of_slot Twice TARGETS)
 
--- Lines 5 to 8 of the harvester that an item names.
-unfoldable pub named_harvester : List ItemParts → Result ℕ StmFault
-named_harvester items = do
+-- Lines 5 to 8 of who asks.
+unfoldable pub harvester_in : List ItemParts → Result ℕ StmFault
+harvester_in items = if not (has HARVESTER items) then Ok 1 else (do
   numbers ← numbers_in Digits HARVESTER items
   _ ← check (all_within 1 64 numbers) (of_slot Range HARVESTER)
   _ ← check (has_no_strays HARVESTER ASKED items) (of_slot Order HARVESTER)
   _ ← check (length numbers == 1) (of_slot Count HARVESTER)
-  Ok (slice_index numbers 0)
-
--- who asks
-abbrev pub harvester_in : List ItemParts → Result ℕ StmFault
-harvester_in items = if has HARVESTER items then named_harvester items else Ok 1
+  Ok (slice_index numbers 0))
 
 -- an item as it is written
 abbrev pub item_text : ItemParts → List ℕ
@@ -89,17 +81,13 @@ only_stem (Ok (stem ∷ [])) = Ok stem
 only_stem (Ok _) = Err (of_slot Missing STEM)
 only_stem (Err fault) = Err fault
 
--- Lines 5 to 8 of the item that asks for a preview.
-unfoldable pub named_preview : List ItemParts → Result Bool StmFault
-named_preview items = do
+-- Lines 5 to 8 of whether a preview is asked for.
+unfoldable pub preview_in : List ItemParts → Result Bool StmFault
+preview_in items = if not (has PREVIEW items) then Ok false else (do
   numbers ← numbers_in Digits PREVIEW items
   _ ← all_in_range Range PREVIEW numbers
   _ ← check (length numbers == 1) (of_slot Count PREVIEW)
-  Ok true
-
--- whether a preview is asked for
-abbrev pub preview_in : List ItemParts → Result Bool StmFault
-preview_in items = if has PREVIEW items then named_preview items else Ok false
+  Ok true)
 
 -- no number is above its bound, and three bounds take turns
 abbrev pub in_turn : ℕ → ℕ → ℕ → List ℕ → Bool
@@ -110,24 +98,20 @@ in_turn first second third (n ∷ ns) = nat_le n first && in_turn second third f
 abbrev pub are_low : List ℕ → Bool
 are_low numbers = in_turn HIGHEST_START HIGHEST_LENGTH HIGHEST_ASSORTMENT numbers
 
--- Lines 5 to 8 of the item that has an operator's own logs.
-unfoldable pub named_own : List ItemParts → Result (Option (List Log)) StmFault
-named_own items = do
+-- Lines 5 to 8 of an operator's own logs, if there are any.
+unfoldable pub own_in : List ItemParts → Result (Option (List Log)) StmFault
+own_in items = if not (has OWN items) then Ok None else (do
   numbers ← numbers_in Digits OWN items
   _ ← check (are_low numbers) (of_slot Range OWN)
   _ ← check (length numbers % 3 == 0 && nat_le (length numbers) (3 * MOST_OWN)) (of_slot Count OWN)
-  Ok (Some (logs_of numbers))
-
--- an operator's own logs, where there are any
-abbrev pub own_in : List ItemParts → Result (Option (List Log)) StmFault
-own_in items = if has OWN items then named_own items else Ok None
+  Ok (Some (logs_of numbers)))
 
 -- the number of a fault's line, from its number and fields
 abbrev pub number_of_line : List ℕ → ℕ
 number_of_line [] = 0
 number_of_line (number ∷ fields) = number
 
--- the fault of the earlier line: where both are of one line, the first, since its item comes first in the table
+-- the fault of the earlier line: if both are of one line, the first, because its item comes first in the table
 abbrev pub earlier : StmFault → StmFault → StmFault
 earlier e f = if nat_le (number_of_line (stm_numbers e)) (number_of_line (stm_numbers f)) then e else f
 
@@ -149,15 +133,13 @@ stem_in items = do
   found ← both (only_stem (stm_of (stem_file items))) (both (preview_in items) (own_in items))
   Ok (asked_of found.0 found.1.0 found.1.1)
 
--- the targets that an item has
-unfoldable pub targets_in : List ItemParts → Result Asked StmFault
-targets_in items = numbers_in Digits TARGETS items >>= λ targets. Ok (Targets targets)
-
 -- Lines 5 to 8 of what is asked for: numbers as targets, or else a stem.
 unfoldable pub asked_in : List ItemParts → Result Asked StmFault
-asked_in items = if has TARGETS items then targets_in items else stem_in items
+asked_in items =
+    if not (has TARGETS items) then stem_in items
+    else (numbers_in Digits TARGETS items >>= λ targets. Ok (Targets targets))
 
--- what the items of a line ask for, where there are any
+-- what the items of a line ask for, if there are any
 unfoldable pub requested : List ItemParts → Result (Option Request) StmFault
 requested [] = Ok None
 requested (item ∷ items) = do

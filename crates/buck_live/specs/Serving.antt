@@ -1,6 +1,7 @@
 -- How a whole run of requests ends: what is opened and made, and what is written.
-use Rattle.std.specs.Prelude.{◌≡◌, ◌⊎◌, ℕ, List, [], Option, Some, None, Result, Ok, Err}
+use Rattle.std.specs.Prelude.{◌≡◌, ◌⊎◌, ℕ, List, [], Option, Result, Ok, Err}
 use Rattle.std.specs.Option.{option_map}
+use Rattle.std.specs.Result.{result_and}
 use Rattle.std.specs.Io.KnownBytes.{Appends, Keeps}
 use Rattle.buck_apt.specs.Apt.{apt_of}
 use Rattle.buck_apt.specs.Instruction.{InstructionParts}
@@ -9,29 +10,24 @@ use Rattle.buck_book.specs.History.{HistoryParts, IsLawful}
 use Rattle.buck_journal.specs.Written.{journal_text}
 use Rattle.buck_engine.specs.declared.fault.EngineFault.{EngineFault}
 use Rattle.buck_engine.specs.declared.fault.EngineFault.TheVariants.{Write, Memory}
-use Rattle.buck_engine.specs.run.Opening.{AnswersInputs}
+use Rattle.buck_engine.specs.run.Opening.{AnswersInputs, MakesJournal}
 use Rattle.buck_engine.specs.run.Reading.{IsAptFault, Says}
-use Rattle.buck_engine.specs.fleet.Lent.{OfWriter, no_writer, of_writer}
+use Rattle.buck_engine.specs.fleet.Lent.{OfWriter, of_made}
 use Rattle.buck_engine.specs.text.Written.{AppendsSome}
 use Rattle.buck_engine.specs.tie.Ties.{FollowsRule}
 use Rattle.buck_cutter.specs.Cut.{opening}
 use Rattle.buck_live.specs.Live.{IsLiveRun}
 use Rattle.buck_live.specs.declared.serving.LiveTask.{LiveTask}
 
--- the journal of a history was written, where one is asked for; or a part of it, or nothing where memory ran out
+-- the journal of a history was written, if one is asked for; or a part of it, or nothing if memory ran out
 abbrev pub KeepsJournal : OfWriter → HistoryParts → Result (Unit {0}) EngineFault → Type 0
 KeepsJournal OfJournal h (Ok _) = OfJournal (λ a b. Appends a b (journal_text h.sheets h.postings))
 KeepsJournal OfJournal h (Err fault) =
     ((fault ≡ Memory) × OfJournal Keeps)
     ⊎ ((fault ≡ Write) × OfJournal (λ a b. AppendsSome a b (journal_text h.sheets h.postings)))
 
--- the fault of the journal comes before that of the run
-abbrev pub first_fault : Result (Unit {0}) EngineFault → Result (Unit {0}) EngineFault → Result (Unit {0}) EngineFault
-first_fault (Ok _) ran = ran
-first_fault (Err fault) ran = Err fault
-
 -- requests were answered by a book of an instruction, whose history is lawful, with prices of which this holds, and
--- then its journal was written, however the run over the requests ended
+-- then its journal was written, however the run over the requests ended; its fault comes before that of the run
 pub record IsLive (ByRule : HistoryParts → Type 0) (i : InstructionParts) (input : Option (List ℕ))
     (OfJournal : OfWriter) (old new : Option (List ℕ)) (outcome : Result (Unit {0}) EngineFault) : Type 0 where
   pub history : HistoryParts
@@ -41,7 +37,7 @@ pub record IsLive (ByRule : HistoryParts → Type 0) (i : InstructionParts) (inp
   pub kept : Result (Unit {0}) EngineFault
   pub run : IsLiveRun (opening i) input old new ran history
   pub journal : KeepsJournal OfJournal history kept
-  pub outcome_is : outcome ≡ first_fault kept ran
+  pub outcome_is : outcome ≡ result_and kept ran
 
 -- the instruction is refused, or memory runs out before the first request is read; nothing is read of the input then,
 -- and nothing is written
@@ -66,23 +62,23 @@ abbrev pub AnswersLive : LiveTask → Option (List ℕ) → Option (List ℕ) �
 AnswersLive task apt input Unread OfJournal old new outcome =
     IsUnopened apt Unread OfJournal old new outcome ⊎ IsOpened task apt input OfJournal old new outcome
 
--- a run whose journal goes into a file that was made; where that can't be, nothing is read or written
+-- a run whose journal goes into a file that was made, if one is wanted; if that can't be, nothing is read or
+-- written
 abbrev pub RunsMade : {M : Type 0} → (M → Option (List ℕ)) → LiveTask → Option (List ℕ) → Option (List ℕ) → Type 0
-    → Option M → Option (List ℕ) → Option (List ℕ) → Result (Unit {0}) EngineFault → Type 0
-RunsMade contents task apt input Unread None old new outcome = (outcome ≡ Err Write) × Unread × Keeps old new
-RunsMade contents task apt input Unread (Some made) old new outcome =
-    (left : _) × AnswersLive task apt input Unread (of_writer (contents made) (contents left)) old new outcome
+    → Result (Option M) EngineFault → Option (List ℕ) → Option (List ℕ) → Result (Unit {0}) EngineFault → Type 0
+RunsMade contents task apt input Unread (Err fault) old new outcome = (outcome ≡ Err fault) × Unread × Keeps old new
+RunsMade contents task apt input Unread (Ok made) old new outcome =
+    of_made contents made (λ o. AnswersLive task apt input Unread o old new outcome)
 
--- a run over the instruction file that was opened: the file of the journal is made first, where one is wanted
+-- a run over the instruction file that was opened: the file of the journal is made first
 abbrev pub RunsApt : {O F M : Type 0} → (O → List ℕ → Option M → O → Type 0) → (F → Option (List ℕ))
-    → (M → Option (List ℕ)) → O → O → LiveTask → Option (List ℕ) → Result (F × List F) EngineFault
-    → Option (List ℕ) → Type 0 → Option (List ℕ) → Option (List ℕ) → Result (Unit {0}) EngineFault → Type 0
-RunsApt makes held contents start end task journal (Err fault) input Unread old new outcome =
+    → (M → Option (List ℕ)) → O → O → LiveTask → Result (F × List F) EngineFault → Option (List ℕ) → Type 0
+    → Option (List ℕ) → Option (List ℕ) → Result (Unit {0}) EngineFault → Type 0
+RunsApt makes held contents start end task (Err fault) input Unread old new outcome =
     (outcome ≡ Err fault) × (end ≡ start) × Unread × Keeps old new
-RunsApt makes held contents start end task None (Ok files) input Unread old new outcome =
-    (end ≡ start) × AnswersLive task (held files.0) input Unread no_writer old new outcome
-RunsApt makes held contents start end task (Some name) (Ok files) input Unread old new outcome =
-    (made : _) × makes start name made end × RunsMade contents task (held files.0) input Unread made old new outcome
+RunsApt makes held contents start end task (Ok files) input Unread old new outcome =
+    (made : Result (Option _) EngineFault) × MakesJournal makes start end (option_map (λ s. s.now) task.journal) made
+    × RunsMade contents task (held files.0) input Unread made old new outcome
 
 -- the instruction file is opened by its name, then the file of the journal is made, and then the requests are answered;
 -- what it is that nothing was read of the input is handed over
@@ -93,5 +89,4 @@ pub record RunsLive {O F M : Type 0} (opens : O → List ℕ → Option F → O 
   pub opened : Result (F × List F) EngineFault
   pub between : O
   pub answers : AnswersInputs opens start between task.apt.now [] opened
-  pub runs : RunsApt makes held contents between end task (option_map (λ s. s.now) task.journal) opened
-      input Unread old new outcome
+  pub runs : RunsApt makes held contents between end task opened input Unread old new outcome

@@ -2,4 +2,3 @@
 pub mod Reading
 pub mod Answering
 pub mod Running
-pub mod Served

@@ -1,7 +1,6 @@
 //! What is answered to a line of the input.
 ghost use Rattle.std.specs.Prelude.{◌≡◌, ◌≤◌, ◌<◌, ◌++◌, ℕ, List, length, IfOk, OnOk, codes};
 ghost use Rattle.std.specs.List.{flat_map};
-ghost use Rattle.std.specs.Option.{option_map};
 ghost use Rattle.buck_rule.specs.Stored.{Answers};
 ghost use Rattle.buck_record.specs.writing.Line.{line_of};
 ghost use Rattle.buck_book.specs.Book.{demand_of};
@@ -12,8 +11,10 @@ ghost use Rattle.buck_engine.specs.text.Bucking.{log_line, stem_lines};
 ghost use Rattle.buck_engine.specs.text.Report.{posting_line};
 ghost use Rattle.buck_live.specs.Answers.{AnswersLine, JudgesOwn, PreviewsStem, own_line, preview_lines, targets_numbers};
 ghost use Rattle.buck_live.specs.inner.Answering.{AnswersOne, told};
+ghost use Rattle.buck_live.specs.inner.Reading.{held_line};
 ghost use Rattle.buck_book.specs.declared.posting.TheConstants.{MOST_POSTINGS};
 
+use crate::lines::{End, whole};
 use crate::request::{Asked, read_request};
 use buck_book::{Book, CutFault, DemandRefusal, Plan, TargetsFault};
 use buck_cutter::Cutter;
@@ -27,6 +28,7 @@ use std::alloc::Global;
 use std::sync::Arc;
 
 /// Puts the lines of a plan's logs.
+#[tactic(auto, using(buck_engine::proofs::TextLemmas::all_allowed))]
 fn put_planned(out: &mut Vec<u8>, plan: &Plan) -> Result<(), Memory>
     ensures put { OnOk result
         (out.new.items ≡ out.old.items ++ flat_map (log_line plan.now.sheet plan.now.stem) plan.now.logs) }
@@ -41,6 +43,7 @@ fn put_planned(out: &mut Vec<u8>, plan: &Plan) -> Result<(), Memory>
 }
 
 /// The lines of a stem that is cut as planned.
+#[tactic(auto, unfolding(buck_engine::specs::text::Bucking::stem_lines))]
 fn stem_text(alloc: Global, plan: &Plan) -> Result<Vec<u8>, Memory>
     ensures { IfOk result (λ text.
         text.items ≡ stem_lines plan.now.sheet (record { stem = plan.now.stem; logs = plan.now.logs })) }
@@ -189,7 +192,7 @@ fn refused_text(alloc: Global, fault: TargetsFault) -> Result<Vec<u8>, Memory>
     Ok(text)
 }
 
-/// Puts new targets in force, where they are valid. The answer is the demand's line, or that of the targets' fault.
+/// Puts new targets in force, if they are valid. The answer is the demand's line, or that of the targets' fault.
 #[tactic(auto, using(buck_cutter::proofs::Adding::as_before))]
 fn retarget<F: Fn(&Standing) -> u64 + Drop>(
     alloc: Global,
@@ -216,7 +219,7 @@ fn retarget<F: Fn(&Standing) -> u64 + Drop>(
     }
 }
 
-/// Answers what is asked for: a posting where the history has room, and whatever posts nothing.
+/// Answers what is asked for: a posting if the history has room, and whatever posts nothing.
 #[tactic(auto, using(buck_cutter::proofs::Adding::as_before))]
 fn answer_asked<F: Fn(&Standing) -> u64 + Drop>(
     alloc: Global,
@@ -240,22 +243,22 @@ fn answer_asked<F: Fn(&Standing) -> u64 + Drop>(
     }
 }
 
-/// Answers a line, where it isn't too long or cut off.
+/// Answers a line, of which these bytes are held, by what ended it.
 #[tactic(auto, using(buck_cutter::proofs::Adding::as_before))]
 pub(crate) fn answer<F: Fn(&Standing) -> u64 + Drop>(
     alloc: Global,
     cutter: &mut Cutter<F>,
-    line: Option<&[u8]>,
+    line: &[u8],
+    end: End,
 ) -> Result<Vec<u8>, EngineFault>
     requires answers { Answers F.Fn cutter.old.rule }
     requires capacity { cutter.old.capacity ≡ MOST_POSTINGS }
     ensures rule { cutter.new.rule ≡ cutter.old.rule }
     ensures capacity { cutter.new.capacity ≡ cutter.old.capacity }
-    ensures answered { AnswersLine cutter.old.history (option_map (λ l. l.now) line.entry)
-        (told result) cutter.new.history }
+    ensures answered { AnswersLine cutter.old.history (held_line end line.now) (told result) cutter.new.history }
     ensures given { StaysByRule F.Fn cutter.old cutter.new }
 {
-    let Some(line) = line else {
+    let Some(line) = whole(line, end) else {
         return Err(EngineFault::Read { file: 1 });
     };
     match read_request(alloc, line) {

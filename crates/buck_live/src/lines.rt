@@ -1,9 +1,9 @@
 //! The lines of the input, each read to its end and no further.
-ghost use Rattle.std.specs.Prelude.{◌≡◌, ◌≤◌, IfOk, vec_capacity};
+ghost use Rattle.std.specs.Prelude.{◌≡◌, ◌<◌, ◌≤◌, ◌+◌, ◌∷◌, ◌++◌, [], length, take, IfOk, vec_capacity};
 ghost use Rattle.std.specs.Option.{option_map};
 ghost use Rattle.buck_record.specs.bytes.White.{is_white};
 ghost use Rattle.buck_live.specs.Lines.{is_finished, last_byte, longest_line};
-ghost use Rattle.buck_live.specs.inner.Reading.{HoldsMore, IsRead, ReadsByte, line_of};
+ghost use Rattle.buck_live.specs.inner.Reading.{IsRead, ReadsByte, held_line};
 
 use std::io;
 
@@ -19,15 +19,6 @@ pub(crate) enum End {
     Input,
 }
 
-/// What was read of a line.
-#[derive(Clone, Copy, Debug, PartialEq, Eq, Drop)]
-pub(crate) struct Found {
-    /// Whether it isn't too long.
-    pub fits: bool,
-    /// What ended it.
-    pub end: End,
-}
-
 /// The next byte of the input, or none at its end. Nothing is read beyond it.
 fn next_byte<R: io::Read>(input: &mut R) -> io::Result<Option<u8>>
     ensures { IfOk result (λ o. ReadsByte (R.remaining input.old) (R.remaining input.new) o) }
@@ -41,47 +32,33 @@ fn next_byte<R: io::Read>(input: &mut R) -> io::Result<Option<u8>>
     }
 }
 
-/// Holds a further byte of a line, where a line may have so many. The answer is whether it may.
-fn hold(line: &mut Vec<u8>, byte: u8) -> bool
-    requires room { longest_line ≤ vec_capacity line.old }
-    ensures held { HoldsMore byte line.old.items line.new.items result }
+/// Holds a further byte of a line, unless it is too long by those that are held.
+fn hold(line: &mut Vec<u8>, byte: u8)
+    requires few { length line.old.items ≤ longest_line + 1 }
+    requires room { longest_line < vec_capacity line.old }
+    ensures held { line.new.items ≡ take (longest_line + 1) (line.old.items ++ byte ∷ []) }
     ensures capacity { vec_capacity line.new ≡ vec_capacity line.old }
 {
-    if line.len() < LONGEST {
+    if line.len() <= LONGEST {
         line.push_reserved(byte);
-        true
-    } else {
-        false
     }
 }
 
-/// Reads a line up to the line feed or the end of the input that ends it, and no further, and holds the bytes that a
-/// line may have.
-pub(crate) fn read_bytes<R: io::Read>(input: &mut R, line: &mut Vec<u8>) -> io::Result<Found>
-    requires room { longest_line ≤ vec_capacity line.old }
+/// Reads a line up to the line feed or the end of the input that ends it, and no further, and holds its bytes: one more
+/// than a line may have, if it is too long. The answer is what ended it.
+pub(crate) fn read_bytes<R: io::Read>(input: &mut R, line: &mut Vec<u8>) -> io::Result<End>
+    requires room { longest_line < vec_capacity line.old }
     ensures capacity { vec_capacity line.new ≡ vec_capacity line.old }
-    ensures read { IfOk result (λ found.
-        IsRead (R.remaining input.old) (R.remaining input.new)
-        (line_of line.new.items found.fits found.end) found.end) }
+    ensures read { IfOk result (λ end.
+        IsRead (R.remaining input.old) (R.remaining input.new) (held_line end line.new.items) end) }
 {
     line.clear();
-    let mut fits = true;
     'bytes: for _ in 0..u64::MAX {
         match next_byte(input) {
             Err(error) => return Err(error),
-            Ok(None) => {
-                return Ok(Found {
-                    fits,
-                    end: End::Input,
-                });
-            }
-            Ok(Some(b'\n')) => {
-                return Ok(Found {
-                    fits,
-                    end: End::Feed,
-                });
-            }
-            Ok(Some(byte)) => fits = hold(line, byte),
+            Ok(None) => return Ok(End::Input),
+            Ok(Some(b'\n')) => return Ok(End::Feed),
+            Ok(Some(byte)) => hold(line, byte),
         }
     }
     Err(io::Error::from(io::ErrorKind::Other))
@@ -100,7 +77,7 @@ fn last_byte(bytes: &[u8]) -> Option<u8>
     bytes.iter().rev().copied().find(|byte| !is_white(*byte))
 }
 
-/// Whether a text ends with a tilde, white bytes aside, or has white bytes alone.
+/// Whether a text ends with a tilde, whitespace aside, or has whitespace alone.
 fn is_finished(bytes: &[u8]) -> bool
     ensures { result ≡ is_finished bytes.now }
 {
@@ -110,14 +87,14 @@ fn is_finished(bytes: &[u8]) -> bool
     }
 }
 
-/// The line that was found, where it isn't too long or cut off.
-pub(crate) fn whole<'a>(line: &'a [u8], found: Found) -> Option<&'a [u8]>
-    ensures { option_map (λ l. l.now) result ≡ line_of line.now found.fits found.end }
+/// The line that is held, if it isn't too long or cut off.
+pub(crate) fn whole<'a>(line: &'a [u8], end: End) -> Option<&'a [u8]>
+    ensures { option_map (λ l. l.now) result ≡ held_line end line.now }
 {
-    if !found.fits {
+    if line.len() > LONGEST {
         return None;
     }
-    match found.end {
+    match end {
         End::Feed => Some(line),
         End::Input => { if is_finished(line) { Some(line) } else { None } }
     }

@@ -1,5 +1,5 @@
 //! Requests, one after the other, each answered before the next is read.
-ghost use Rattle.std.specs.Prelude.{◌≡◌, ◌≤◌, IfOk, vec_capacity};
+ghost use Rattle.std.specs.Prelude.{◌≡◌, ◌<◌, IfOk, vec_capacity};
 ghost use Rattle.buck_rule.specs.Stored.{Answers};
 ghost use Rattle.buck_book.specs.Book.{IsBook};
 ghost use Rattle.buck_journal.specs.Written.{journal_text};
@@ -7,10 +7,10 @@ ghost use Rattle.buck_cutter.specs.Cut.{StaysByRule, opening};
 ghost use Rattle.buck_live.specs.Lines.{longest_line};
 ghost use Rattle.buck_live.specs.Live.{IsLiveRun};
 ghost use Rattle.buck_live.specs.inner.Answering.{told};
-ghost use Rattle.buck_live.specs.inner.Running.{IsSaid, IsStep};
+ghost use Rattle.buck_live.specs.inner.Running.{IsSaid};
 
 use crate::answering::answer;
-use crate::lines::{End, LONGEST, read_bytes, whole};
+use crate::lines::{End, LONGEST, read_bytes};
 use crate::replies::Replies;
 use buck_apt::Instruction;
 use buck_book::MOST_POSTINGS;
@@ -31,7 +31,7 @@ pub struct Live<F> {
 }
 
 impl<F> Model for Live<F> {
-    ghost use Rattle.std.specs.Prelude.{◌≡◌, ◌≤◌, vec_capacity};
+    ghost use Rattle.std.specs.Prelude.{◌≡◌, ◌<◌, vec_capacity};
     ghost use Rattle.buck_book.specs.Book.{BookParts};
     ghost use Rattle.buck_book.specs.declared.posting.TheConstants.{MOST_POSTINGS};
     ghost use Rattle.buck_live.specs.Lines.{longest_line};
@@ -40,7 +40,7 @@ impl<F> Model for Live<F> {
 
     ghost view = { λ l. l.cutter };
 
-    ghost invariant = { λ l. (longest_line ≤ vec_capacity l.line) × (l.cutter.capacity ≡ MOST_POSTINGS) };
+    ghost invariant = { λ l. (longest_line < vec_capacity l.line) × (l.cutter.capacity ≡ MOST_POSTINGS) };
 }
 
 /// Writes an answer: a text, or the line of a fault.
@@ -59,47 +59,22 @@ fn put<W: io::Write>(out: &mut W, answer: &Result<Vec<u8>, EngineFault>) -> Resu
     }
 }
 
-/// Writes an answer, and lets nothing of it wait in a buffer.
-fn say<W: io::Write>(out: &mut W, answer: &Result<Vec<u8>, EngineFault>) -> Result<(), EngineFault>
+/// Tells of a line and its answer, and then writes that, so that nothing of it waits in a buffer.
+fn say<W: Replies>(
+    out: &mut W,
+    line: &[u8],
+    instruction: &Instruction,
+    answer: &Result<Vec<u8>, EngineFault>,
+) -> Result<(), EngineFault>
     ensures { IsSaid (W.contents out.old) (W.contents out.new) (told answer.now) result }
 {
+    let few = line.len().min(LONGEST);
+    out.hear(&line[..few], line.len() == few, instruction, answer);
     put(out, answer)?;
     match out.flush() {
         Ok(()) => Ok(()),
         Err(_) => Err(EngineFault::Write),
     }
-}
-
-/// Reads the next line and answers it.
-fn answer_next<F: Fn(&Standing) -> u64 + Drop, R: io::Read, W: Replies>(
-    alloc: Global,
-    cutter: &mut Cutter<F>,
-    line: &mut Vec<u8>,
-    input: &mut R,
-    out: &mut W,
-) -> Result<End, EngineFault>
-    requires answers { Answers F.Fn cutter.old.rule }
-    requires capacity { cutter.old.capacity ≡ MOST_POSTINGS }
-    requires room { longest_line ≤ vec_capacity line.old }
-    ensures rule { cutter.new.rule ≡ cutter.old.rule }
-    ensures capacity { cutter.new.capacity ≡ cutter.old.capacity }
-    ensures room { vec_capacity line.new ≡ vec_capacity line.old }
-    ensures step { IsStep cutter.old.history (R.remaining input.old) (R.remaining input.new)
-        (W.contents out.old) (W.contents out.new) result cutter.new.history }
-    ensures given { StaysByRule F.Fn cutter.old cutter.new }
-{
-    let Ok(found) = read_bytes(input, line) else {
-        return Err(EngineFault::Read { file: 1 });
-    };
-    let answer = answer(alloc, cutter, whole(line.as_slice(), found));
-    out.hear(
-        line.as_slice(),
-        found.fits,
-        cutter.book().instruction(),
-        &answer,
-    );
-    say(out, &answer)?;
-    Ok(found.end)
 }
 
 /// Reads all lines and answers each before it reads the next.
@@ -113,7 +88,7 @@ fn answer_all<F: Fn(&Standing) -> u64 + Drop, R: io::Read, W: Replies>(
 ) -> Result<(), EngineFault>
     requires answers { Answers F.Fn cutter.old.rule }
     requires capacity { cutter.old.capacity ≡ MOST_POSTINGS }
-    requires room { longest_line ≤ vec_capacity line.old }
+    requires room { longest_line < vec_capacity line.old }
     ensures rule { cutter.new.rule ≡ cutter.old.rule }
     ensures capacity { cutter.new.capacity ≡ cutter.old.capacity }
     ensures room { vec_capacity line.new ≡ vec_capacity line.old }
@@ -122,10 +97,17 @@ fn answer_all<F: Fn(&Standing) -> u64 + Drop, R: io::Read, W: Replies>(
     ensures given { StaysByRule F.Fn cutter.old cutter.new }
 {
     'requests: for _ in 0..u64::MAX {
-        match answer_next(alloc, cutter, line, input, out) {
+        let Ok(end) = read_bytes(input, line) else {
+            return Err(EngineFault::Read { file: 1 });
+        };
+        let held = line.as_slice();
+        let answer = answer(alloc, cutter, held, end);
+        match say(out, held, cutter.book().instruction(), &answer) {
             Err(fault) => return Err(fault),
-            Ok(End::Input) => return Ok(()),
-            Ok(End::Feed) => {}
+            Ok(()) => match end {
+                End::Input => return Ok(()),
+                End::Feed => {}
+            },
         }
     }
     Err(EngineFault::Read { file: 1 })
@@ -142,7 +124,8 @@ impl<F: Fn(&Standing) -> u64 + Drop> Live<F> {
         ensures history { IfOk result (λ l. l.history ≡ opening instruction.value) }
     {
         let cutter = Cutter::open(alloc, instruction, rule, MOST_POSTINGS)?;
-        let line = Vec::with_capacity(alloc, LONGEST)?;
+        // All at once: if it grew with the line, a request could fail for memory.
+        let line = Vec::with_capacity(alloc, LONGEST + 1)?;
         Ok(Live { cutter, line })
     }
 
@@ -150,7 +133,7 @@ impl<F: Fn(&Standing) -> u64 + Drop> Live<F> {
     /// an answer isn't written and flushed. The input is read byte by byte; a slow one is to be buffered. It goes on to
     /// the end of the input, whatever is refused. The output hears of each line and its answer before that is written.
     ///
-    /// `Read` with the number 1 comes where the input can't be read, and `Write` where an answer can't be written; what
+    /// `Read` with the number 1 comes if the input can't be read, and `Write` if an answer can't be written; what
     /// was cut before stands, and so does what an answer says that wasn't written.
     pub fn run<R: io::Read, W: Replies>(
         &mut self,

@@ -1,11 +1,11 @@
-//! Where answers go.
+//! The writer of answers.
 ghost use Rattle.std.specs.Prelude.{◌≡◌};
 
 use buck_apt::Instruction;
 use buck_engine::EngineFault;
 use std::io;
 
-/// Where answers go. It hears of each line and of its answer before that is written to it, and may say elsewhere, to
+/// A writer of answers. It hears of each line and of its answer before that is written to it, and may say elsewhere, to
 /// whoever looks on, what was wrong.
 pub trait Replies: io::Write {
     /// The next line is answered: its bytes, as many as a line may have, and whether it has no more; the instruction

@@ -1,5 +1,5 @@
 //! What a line of the input asks for.
-ghost use Rattle.std.specs.Prelude.{◌≡◌, ◌++◌, ◌<◌, ◌≤◌, ◌*◌, ◌%◌, ◌==◌, ◌&&◌, nat_le, true, Ok, IfOk, IfSome, OnOk};
+ghost use Rattle.std.specs.Prelude.{◌≡◌, ◌++◌, ◌<◌, ◌≤◌, ◌*◌, ◌%◌, ◌==◌, ◌&&◌, true, Ok, IfOk, IfSome, OnOk};
 ghost use Rattle.buck_record.specs.Reading.{Gives, with_fault};
 ghost use Rattle.buck_record.specs.bytes.Record.{items_of};
 ghost use Rattle.buck_record.specs.checking.Table.{is_in};
@@ -7,17 +7,12 @@ ghost use Rattle.buck_stem.specs.file.Faults.{stm_numbers};
 ghost use Rattle.buck_stem.specs.file.Stm.{stm_of};
 ghost use Rattle.buck_journal.specs.reading.Journal.{logs_of};
 ghost use Rattle.buck_live.specs.Request.{
-  all_there,
   are_low,
   asked_in,
   asked_of,
   both,
   earlier,
   harvester_in,
-  item_text,
-  named_harvester,
-  named_own,
-  named_preview,
   number_of_line,
   only_stem,
   own_in,
@@ -29,14 +24,13 @@ ghost use Rattle.buck_live.specs.Request.{
   stem_file,
   stem_in,
   stem_text,
-  targets_in,
 };
 
 use crate::slots::{
     AFTER_STEM, ASKED, HARVESTER, HIGHEST_ASSORTMENT, HIGHEST_LENGTH, HIGHEST_START, MOST_OWN, OWN,
     PREVIEW, STEM_ITEMS, TABLE, TARGETS,
 };
-use buck_record::check::{all_absent, all_single, all_there as each_there, check, is_there};
+use buck_record::check::{all_absent, all_single, all_there, check, is_there};
 use buck_record::rules::{all_in_range, all_within, numbers_in};
 use buck_record::table::front;
 use buck_record::{FormFault, Listed, Memory, Numbered, Piece, RecordFault, pieces, put_numbers};
@@ -45,7 +39,7 @@ use buck_stem::{Stem, StmFault, read_stm};
 use buck_value::Log;
 use std::alloc::{AllocError, Global};
 
-/// What is asked for.
+/// The subject of a request.
 #[derive(Drop)]
 pub enum Asked {
     /// A stem is to be cut.
@@ -66,24 +60,14 @@ pub enum Asked {
 /// A request of a harvester.
 #[derive(Drop)]
 pub struct Request {
-    /// Who asks, 1 to 64.
+    /// Number of the harvester that asks, 1 to 64.
     pub harvester: u32,
-    /// What is asked for.
+    /// Its subject.
     pub asked: Asked,
 }
 
-/// A stem has all its items, and where there is none there are targets.
-fn all_there(items: &[Piece<'_>]) -> Result<(), StmFault>
-    ensures { result ≡ all_there items.now }
-{
-    if is_there(items, STEM) {
-        each_there(&NEEDED, items)
-    } else {
-        check(is_there(items, TARGETS), StmFault::missing(STEM))
-    }
-}
-
-/// What must be there is, and no item of a stem stands before its number.
+/// What must be there is, and no item of a stem stands before its number: a stem has all its items, and if there is
+/// none there are targets.
 #[tactic(auto, unfolding(crate::specs::Request::present))]
 fn present<'a>(items: &'a [Piece<'a>]) -> Result<(), StmFault>
     ensures { result ≡ present items.now }
@@ -92,7 +76,11 @@ fn present<'a>(items: &'a [Piece<'a>]) -> Result<(), StmFault>
         all_absent(&AFTER_STEM, front(items, STEM)),
         StmFault::missing(STEM),
     )?;
-    all_there(items)
+    if is_there(items, STEM) {
+        all_there(&NEEDED, items)
+    } else {
+        check(is_there(items, TARGETS), StmFault::missing(STEM))
+    }
 }
 
 /// No item stands twice, and targets don't stand beside a stem.
@@ -105,12 +93,15 @@ fn single(items: &[Piece<'_>]) -> Result<(), StmFault>
     check(!both, StmFault::twice(TARGETS))
 }
 
-/// The harvester that an item names.
-#[tactic(auto, unfolding(crate::specs::Request::named_harvester))]
-fn named_harvester<'a>(alloc: Global, items: &'a [Piece<'a>]) -> Result<u32, StmFault>
-    ensures named { Gives StmFault.Memory result (named_harvester items.now) }
+/// Who asks; if no item names it, the first.
+#[tactic(auto, unfolding(crate::specs::Request::harvester_in))]
+fn harvester_in<'a>(alloc: Global, items: &'a [Piece<'a>]) -> Result<u32, StmFault>
+    ensures named { Gives StmFault.Memory result (harvester_in items.now) }
     ensures range { IfOk result (λ h. (0 < h) × (h ≤ 64)) }
 {
+    if !is_there(items, HARVESTER) {
+        return Ok(1);
+    }
     let numbers = numbers_in::<StmFault>(alloc, HARVESTER, items)?;
     let numbers = numbers.as_slice();
     check(all_within(1, 64, numbers), StmFault::range(HARVESTER))?;
@@ -120,29 +111,6 @@ fn named_harvester<'a>(alloc: Global, items: &'a [Piece<'a>]) -> Result<u32, Stm
     )?;
     check(numbers.len() == 1, StmFault::count(HARVESTER))?;
     Ok(numbers[0])
-}
-
-/// Who asks.
-fn harvester_in<'a>(alloc: Global, items: &'a [Piece<'a>]) -> Result<u32, StmFault>
-    ensures named { Gives StmFault.Memory result (harvester_in items.now) }
-    ensures range { IfOk result (λ h. (0 < h) × (h ≤ 64)) }
-{
-    if is_there(items, HARVESTER) {
-        named_harvester(alloc, items)
-    } else {
-        Ok(1)
-    }
-}
-
-/// Puts an item as it is written.
-fn put_item(out: &mut Vec<u8>, item: &Piece<'_>) -> Result<(), Memory>
-    ensures { OnOk result (out.new.items ≡ out.old.items ++ item_text item.now) }
-{
-    put_numbers(out, &[u128::from(item.number), u128::from(item.kind)])?;
-    out.extend_from_slice(b" ")?;
-    out.extend_from_slice(item.rest)?;
-    out.extend_from_slice(b"~")?;
-    Ok(())
 }
 
 /// Whether it is an item of a stem.
@@ -156,11 +124,14 @@ fn is_of_stem(item: &Piece<'_>) -> bool
 fn put_stem_item(out: &mut Vec<u8>, item: &Piece<'_>) -> Result<(), Memory>
     ensures { OnOk result (out.new.items ≡ out.old.items ++ stem_text item.now) }
 {
-    if is_of_stem(item) {
-        put_item(out, item)
-    } else {
-        Ok(())
+    if !is_of_stem(item) {
+        return Ok(());
     }
+    put_numbers(out, &[u128::from(item.number), u128::from(item.kind)])?;
+    out.extend_from_slice(b" ")?;
+    out.extend_from_slice(item.rest)?;
+    out.extend_from_slice(b"~")?;
+    Ok(())
 }
 
 /// The stem file that has these items of a stem.
@@ -195,31 +166,24 @@ fn read_stem(alloc: Global, items: &[Piece<'_>]) -> Result<Stem, StmFault>
     let Ok(text) = stem_file(alloc, items) else {
         return Err(StmFault::Memory);
     };
+    // By the reader of stem files: a parser of its own would state each maximum again.
     let stems = read_stm(alloc, text.as_slice())?;
     only_stem(stems)
 }
 
-/// That a preview is asked for, by the item that does.
-#[tactic(auto, unfolding(crate::specs::Request::named_preview))]
-fn named_preview<'a>(alloc: Global, items: &'a [Piece<'a>]) -> Result<bool, StmFault>
-    ensures { Gives StmFault.Memory result (named_preview items.now) }
+/// Whether a preview is asked for.
+#[tactic(auto, unfolding(crate::specs::Request::preview_in))]
+fn preview_in<'a>(alloc: Global, items: &'a [Piece<'a>]) -> Result<bool, StmFault>
+    ensures { Gives StmFault.Memory result (preview_in items.now) }
 {
+    if !is_there(items, PREVIEW) {
+        return Ok(false);
+    }
     let numbers = numbers_in::<StmFault>(alloc, PREVIEW, items)?;
     let numbers = numbers.as_slice();
     all_in_range::<StmFault>(PREVIEW, numbers)?;
     check(numbers.len() == 1, StmFault::count(PREVIEW))?;
     Ok(true)
-}
-
-/// Whether a preview is asked for.
-fn preview_in<'a>(alloc: Global, items: &'a [Piece<'a>]) -> Result<bool, StmFault>
-    ensures { Gives StmFault.Memory result (preview_in items.now) }
-{
-    if is_there(items, PREVIEW) {
-        named_preview(alloc, items)
-    } else {
-        Ok(false)
-    }
 }
 
 /// No start, length or assortment is above the highest; those of a last log that isn't whole take part.
@@ -238,13 +202,6 @@ fn are_low(numbers: &[u32]) -> bool
     true
 }
 
-/// Three numbers for each log, of no more logs than there may be.
-fn is_count_of_own(count: usize) -> bool
-    ensures { result ≡ (count % 3 == 0 && nat_le count (3 * MOST_OWN)) }
-{
-    count % 3 == 0 && count <= 3 * MOST_OWN
-}
-
 /// Starts, lengths and assortments, three by three.
 fn logs_of(alloc: Global, numbers: &[u32]) -> Result<Vec<Log>, AllocError>
     requires { are_low numbers.now ≡ true }
@@ -261,29 +218,25 @@ fn logs_of(alloc: Global, numbers: &[u32]) -> Result<Vec<Log>, AllocError>
     Ok(logs)
 }
 
-/// An operator's own logs, by the item that has them.
-#[tactic(auto, unfolding(crate::specs::Request::named_own))]
-fn named_own<'a>(alloc: Global, items: &'a [Piece<'a>]) -> Result<Option<Listed<Log>>, StmFault>
-    ensures { Gives StmFault.Memory result (named_own items.now) }
+/// An operator's own logs, if there are any.
+#[tactic(auto, unfolding(crate::specs::Request::own_in))]
+fn own_in<'a>(alloc: Global, items: &'a [Piece<'a>]) -> Result<Option<Listed<Log>>, StmFault>
+    ensures { Gives StmFault.Memory result (own_in items.now) }
 {
+    if !is_there(items, OWN) {
+        return Ok(None);
+    }
     let numbers = numbers_in::<StmFault>(alloc, OWN, items)?;
     let numbers = numbers.as_slice();
     if !are_low(numbers) {
         return Err(StmFault::range(OWN));
     }
-    check(is_count_of_own(numbers.len()), StmFault::count(OWN))?;
+    let count = numbers.len();
+    check(
+        count % 3 == 0 && count <= 3 * MOST_OWN,
+        StmFault::count(OWN),
+    )?;
     Ok(Some(Listed::of(logs_of(alloc, numbers)?)))
-}
-
-/// An operator's own logs, where there are any.
-fn own_in<'a>(alloc: Global, items: &'a [Piece<'a>]) -> Result<Option<Listed<Log>>, StmFault>
-    ensures { Gives StmFault.Memory result (own_in items.now) }
-{
-    if is_there(items, OWN) {
-        named_own(alloc, items)
-    } else {
-        Ok(None)
-    }
 }
 
 /// The number of a fault's line.
@@ -328,13 +281,8 @@ fn asked_of(stem: Stem, previewed: bool, own: Option<Listed<Log>>) -> Asked
 {
     match own {
         Some(logs) => Asked::Own { stem, logs },
-        None => {
-            if previewed {
-                Asked::Preview(stem)
-            } else {
-                Asked::Stem(stem)
-            }
-        }
+        None if previewed => Asked::Preview(stem),
+        None => Asked::Stem(stem),
     }
 }
 
@@ -361,25 +309,16 @@ fn stem_in<'a>(alloc: Global, items: &'a [Piece<'a>]) -> Result<Asked, StmFault>
     Ok(asked_of(stem, previewed, own))
 }
 
-/// The targets that an item has.
-#[tactic(auto, unfolding(crate::specs::Request::targets_in))]
-fn targets_in<'a>(alloc: Global, items: &'a [Piece<'a>]) -> Result<Asked, StmFault>
-    ensures { Gives StmFault.Memory result (targets_in items.now) }
-{
-    let targets = numbers_in::<StmFault>(alloc, TARGETS, items)?;
-    Ok(Asked::Targets(targets))
-}
-
 /// What is asked for.
 #[tactic(auto, unfolding(crate::specs::Request::asked_in))]
 fn asked_in<'a>(alloc: Global, items: &'a [Piece<'a>]) -> Result<Asked, StmFault>
     ensures { Gives StmFault.Memory result (asked_in items.now) }
 {
-    if is_there(items, TARGETS) {
-        targets_in(alloc, items)
-    } else {
-        stem_in(alloc, items)
+    if !is_there(items, TARGETS) {
+        return stem_in(alloc, items);
     }
+    let targets = numbers_in::<StmFault>(alloc, TARGETS, items)?;
+    Ok(Asked::Targets(targets))
 }
 
 /// What items ask for.
@@ -410,8 +349,8 @@ fn line_items<'a>(alloc: Global, line: &'a [u8]) -> Result<Listed<Piece<'a>>, St
     }
 }
 
-/// What a line asks for; nothing where it has no item. Refused with the first fault that applies, as a stem file is,
-/// items and words counted from 1 in the line; and as `Memory` where a growth was refused.
+/// Reads the request of a line; nothing if it has no item. Refused with the first fault that applies, as a stem file
+/// is, items and words counted from 1 in the line; and as `Memory` if an allocation failed.
 #[tactic(auto, unfolding(crate::specs::Request::request_of))]
 pub fn read_request(alloc: Global, line: &[u8]) -> Result<Option<Request>, StmFault>
     ensures asked { Gives StmFault.Memory result (request_of line.now) }

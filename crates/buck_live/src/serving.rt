@@ -2,10 +2,8 @@
 ghost use Rattle.std.specs.Prelude.{◌≡◌, IfOk, IfErr};
 ghost use Rattle.buck_engine.specs.declared.fault.EngineFault.{EngineFault};
 ghost use Rattle.buck_engine.specs.fleet.Lent.{of_made, of_writer};
-ghost use Rattle.buck_engine.specs.tie.Ties.{FollowsRule};
 ghost use Rattle.buck_cutter.specs.Cut.{opening};
-ghost use Rattle.buck_live.specs.Serving.{KeepsJournal, RunsLive, first_fault};
-ghost use Rattle.buck_live.specs.inner.Served.{RanOrNot};
+ghost use Rattle.buck_live.specs.Serving.{AnswersLive, KeepsJournal, RunsLive};
 
 use crate::live::Live;
 use crate::replies::Replies;
@@ -18,14 +16,14 @@ use std::alloc::Global;
 use std::io;
 use std::sync::Arc;
 
-/// What the words of the command line ask of a run of requests.
+/// The arguments of a run of requests.
 #[derive(Drop)]
 pub struct LiveTask<'a> {
     /// How prices follow what was cut.
     pub rule: NamedRule,
-    /// What is put in the place of the instruction's own numbers.
+    /// The numbers that are put in the place of the instruction's own.
     pub settings: Settings,
-    /// The name of the file that the journal goes into, where one is wanted.
+    /// The name of the file that the journal goes into, if one is wanted.
     pub journal: Option<&'a str>,
     /// The name of the instruction file.
     pub apt: &'a str,
@@ -43,7 +41,7 @@ fn write_journal<F: Drop, J: io::Write>(
     write_text(journal, text.as_slice())
 }
 
-/// Writes the journal of a book into the file that was made for it, where there is one.
+/// Writes the journal of a book into the file that was made for it, if there is one.
 fn keep_journal<F: Drop, J: io::Write + Drop>(
     alloc: Global,
     live: &Live<F>,
@@ -71,44 +69,33 @@ fn opened<F: Fn(&Standing) -> u64 + Drop>(
     Ok(Live::open(alloc, instruction, rule)?)
 }
 
-/// The first of two faults, that of the journal before that of the run.
-fn first_fault(
-    kept: Result<(), EngineFault>,
-    ran: Result<(), EngineFault>,
-) -> Result<(), EngineFault>
-    ensures { result ≡ first_fault kept ran }
-{
-    match kept {
-        Ok(()) => ran,
-        Err(fault) => Err(fault),
-    }
-}
-
-/// Answers requests by a book of an instruction and the rule of a name, and then writes its journal, where one is
-/// wanted, however that ended.
-fn live_made<R: io::Read, J: io::Write + Drop, W: Replies>(
+/// Answers requests by a book of the instruction that a file has and by the task's rule, and then writes its journal,
+/// if one is wanted, however that ended.
+fn live_made<A: io::Read, R: io::Read, J: io::Write + Drop, W: Replies>(
     alloc: Global,
-    instruction: Instruction,
-    named: NamedRule,
+    task: &LiveTask<'_>,
+    apt: &mut A,
     input: &mut R,
     journal: Option<J>,
     out: &mut W,
 ) -> Result<(), EngineFault>
-    ensures { of_made J.contents journal (λ kept. RanOrNot (FollowsRule named) instruction (R.remaining input.old)
+    ensures { of_made J.contents journal (λ kept. AnswersLive task.now (A.remaining apt.old) (R.remaining input.old)
         (input.new ≡ input.old) kept (W.contents out.old) (W.contents out.new) result) }
 {
+    let instruction = read_instruction(alloc, apt)?.with(&task.settings);
+    let named = task.rule;
     let rule = Rule::new(move |s: &Standing| named.price(s));
     let mut live = opened(alloc, instruction, rule)?;
     let ran = live.run(alloc, input, out);
     let kept = keep_journal(alloc, &live, journal);
-    first_fault(kept, ran)
+    kept.and(ran)
 }
 
 /// Answers the requests of the input, one a line, each before the next is read.
 ///
-/// The instruction file is opened, then the file of the journal is made, where one is wanted, and then the instruction
+/// The instruction file is opened, then the file of the journal is made, if one is wanted, and then the instruction
 /// is read, with the numbers of the task in the place of its own. Faults until then are those of
-/// [`read_instruction`]; nothing is read of the input then. After the last request, or where the input can't be read or
+/// [`read_instruction`]; nothing is read of the input then. After the last request, or if the input can't be read or
 /// an answer can't be written, the journal of all that was cut is written. The output hears of each line and its answer
 /// before that is written.
 pub fn serve_live<R: io::Read, O: Open + Make, W: Replies>(
@@ -123,6 +110,5 @@ pub fn serve_live<R: io::Read, O: Open + Make, W: Replies>(
 {
     let (mut apt, _) = open_inputs(alloc, opener, task.apt, &[])?;
     let journal = make_journal(opener, task.journal)?;
-    let instruction = read_instruction(alloc, &mut apt)?.with(&task.settings);
-    live_made(alloc, instruction, task.rule, input, journal, out)
+    live_made(alloc, task, &mut apt, input, journal, out)
 }

@@ -3,7 +3,7 @@ use buck_apt::slots::LENGTHS;
 use buck_record::{Slot, slot};
 use buck_stem::slots::{SAMPLES, SPECIES, STARTS, STEM, ZONES};
 
-/// Who asks; where it is absent, the first.
+/// Who asks; if it is absent, the first.
 pub(crate) const HARVESTER: Slot = slot!(950, 1);
 
 /// That a stem is previewed.

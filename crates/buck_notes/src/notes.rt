@@ -1,4 +1,4 @@
-//! What is worth a note, and where it first is.
+//! What deserves a warning, and its first place.
 ghost use Rattle.std.specs.Prelude.{◌≡◌, IfOk, length};
 ghost use Rattle.buck_notes.specs.Notes.{IsFirstOf, has_name, has_species, is_again, is_namesake, is_too_long, is_unsteered, is_untaken};
 
@@ -10,7 +10,7 @@ use std::collections::BTreeSet;
 /// The most bytes of a journal that is read again.
 const LONGEST: u64 = 67_108_864;
 
-/// The first place whose number stands at an earlier place too. Refused as `Memory` alone.
+/// Returns the first place whose number is at an earlier place too. Refused as `Memory` alone.
 pub fn first_again(alloc: Global, numbers: &[u32]) -> Result<Option<usize>, Memory>
     ensures { IfOk result (IsFirstOf (is_again numbers.now) (length numbers.now)) }
 {
@@ -30,7 +30,7 @@ fn has_species(assortments: &[Assortment], species: u8) -> bool
     assortments.iter().any(|a| a.species() == species)
 }
 
-/// The first place whose species no assortment takes.
+/// Returns the first place whose species no assortment takes.
 pub fn first_untaken(instruction: &Instruction, species: &[u8]) -> Option<usize>
     ensures { IsFirstOf (is_untaken instruction.now species.now) (length species.now) result }
 {
@@ -49,7 +49,7 @@ fn has_name(assortments: &[Assortment], name: &[u8]) -> bool
     assortments.iter().any(|a| a.name() == name)
 }
 
-/// The first assortment whose name an earlier one has too.
+/// Returns the first assortment whose name an earlier one has too.
 pub fn first_namesake(instruction: &Instruction) -> Option<usize>
     ensures { IsFirstOf (is_namesake instruction.now.assortments) (length instruction.now.assortments) result }
 {
@@ -62,15 +62,15 @@ pub fn first_namesake(instruction: &Instruction) -> Option<usize>
     None
 }
 
-/// Whether there are stems, and so few that the first period ends with the last of them or never: no price moves before
-/// all are cut.
+/// Returns whether there are stems, and so few that the first period ends with the last of them or never: no price
+/// moves before all are cut.
 pub fn is_unsteered(stems: usize, period: u32) -> bool
     ensures { result ≡ is_unsteered stems period }
 {
     0 < stems && stems as u64 <= u64::from(period)
 }
 
-/// Whether a journal of so many bytes is too long to be read again.
+/// Returns whether a journal of so many bytes is too long to be read again.
 pub fn is_too_long(bytes: u64) -> bool
     ensures { result ≡ is_too_long bytes }
 {

@@ -24,7 +24,7 @@ one_told i stem from g r s x y = elim (cases_lt (number_of r) (number_of s)) [
   ]
 ]
 
--- what is told of the log at an index applies to it
+-- the reason reported of the log at an index applies to it
 told_applies : (i : InstructionParts) (stem : StemParts) (logs : List Log) (k : ℕ) (r : Reason)
     → HoldsAfter i logs k (λ from g. IsTold i stem from g r) → AppliesAt i stem logs k r
 told_applies i stem logs k r told = of_it (slice_get logs k) _ told

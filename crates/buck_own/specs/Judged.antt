@@ -11,7 +11,7 @@ use Rattle.buck_own.specs.declared.judging.Judged.{Judged}
 use Rattle.buck_own.specs.declared.judging.Judged.TheVariants.{Admissible, Refused}
 use Rattle.buck_own.specs.Reasons.{Applies, IsTold}
 
--- how far some logs take up a stem: to the end of the last one with its trim, or nothing of it where there is none
+-- how far some logs take up a stem: to the end of the last one with its trim, or nothing of it if there is none
 abbrev pub cut_to : InstructionParts → List Log → ℕ
 cut_to i logs = fold (λ _ g. end_of i g) 0 logs
 

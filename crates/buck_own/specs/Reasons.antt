@@ -1,4 +1,4 @@
--- Why a log can't be cut where it stands: nine reasons, and which of them is told.
+-- Why a log can't be cut where it stands: nine reasons, and which of them is reported.
 use Rattle.std.specs.Prelude.{◌≡◌, ◌≢◌, ℕ, ◌+◌, ◌*◌, ◌%◌, ◌<◌, ◌≤◌, ◌⊎◌, List, length, Contains, slice_get, slice_index, IsNone, IsSomeAnd, codes}
 use Rattle.buck_apt.specs.Instruction.{InstructionParts, AssortmentParts}
 use Rattle.buck_stem.specs.Stem.{StemParts, stem_length, HasGradesOf}
@@ -26,7 +26,7 @@ Applies i stem from g Price =
     HoldsOfIts i g (λ a.
     slice_index a.prices (row_at a (top_diameter stem g) * length a.lengths + column_of a g.length) ≡ 0)
 
--- a reason's place among all, counted from 1: the order in which they are told
+-- a reason's place among all, counted from 1: the order in which they are reported
 abbrev pub number_of : Reason → ℕ
 number_of Order = 1
 number_of Assortment = 2

@@ -11,7 +11,7 @@ use buck_apt::{Assortment, Instruction};
 use buck_stem::Stem;
 use buck_value::{Log, Sheet, column_of, log_worth, row_of};
 
-/// What is said of a cutting that someone names.
+/// The verdict on a cutting that someone names.
 #[derive(Clone, Copy, Debug, PartialEq, Eq, Drop)]
 pub enum Judged {
     /// It is admissible.
@@ -36,6 +36,7 @@ fn top_within(stem: &Stem, trim: u32, log: &Log) -> Option<u32>
     ensures valid { IsStem stem.now }
 {
     let whole = stem.length();
+    // Any log may be asked for, so the sums may not fit.
     let top = log.start.checked_add(log.length)?;
     let end = top.checked_add(trim)?;
     if whole < end {
@@ -44,7 +45,7 @@ fn top_within(stem: &Stem, trim: u32, log: &Log) -> Option<u32>
     Some(top)
 }
 
-/// The first reason that applies to a log of an assortment, from its length on, where none before it does.
+/// The first reason that applies to a log of an assortment, from its length on, if none before it does.
 fn reason_measured(assortment: &Assortment, stem: &Stem, log: &Log) -> Option<Reason>
     ensures told { IfSome result (λ r.
         HoldsMeasured assortment.now stem.now log.now (λ i from. IsTold i stem.now from log.now r)) }

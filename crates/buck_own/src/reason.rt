@@ -3,7 +3,7 @@ ghost use Rattle.std.specs.Prelude.{◌≡◌};
 ghost use Rattle.buck_own.specs.Reasons.{reason_name, number_of};
 
 /// Why a log of a cutting can't be cut where it stands. Several reasons may apply to a log; the first of this list that
-/// does is told.
+/// does is reported.
 #[derive(Clone, Copy, Debug, PartialEq, Eq, Drop)]
 pub enum Reason {
     /// It starts before the log before it ends, trim included.

@@ -15,22 +15,22 @@ impl fmt::Display for Wanted<'_> {
         let Wanted(seen) = *self;
         match seen.row.count {
             Count::Any | Count::Text(_) => Ok(()),
-            Count::One | Count::Names => write!(f, "1 wanted"),
-            Count::Slots => write!(f, "{} wanted", seen.row.slots.len()),
-            Count::UpTo(most) => write!(f, "1 to {most} wanted"),
-            Count::AtMost(most) => write!(f, "at most {most} wanted"),
+            Count::One | Count::Names => write!(f, "expected 1"),
+            Count::Slots => write!(f, "expected {}", seen.row.slots.len()),
+            Count::UpTo(most) => write!(f, "expected 1 to {most}"),
+            Count::AtMost(most) => write!(f, "expected at most {most}"),
             Count::Pairs(most) => {
-                write!(f, "an even count up to {} wanted", most.saturating_mul(2))
+                write!(f, "expected an even count up to {}", most.saturating_mul(2))
             }
             Count::Triples(most) => {
                 let all = most.saturating_mul(3);
-                write!(f, "three for each log, at most {all}, wanted")
+                write!(f, "expected three for each log, at most {all}")
             }
             Count::Classes => {
                 let all = seen.classes();
                 let columns = seen.size_of(LENGTHS);
                 let rows = Several(seen.size_of(DIAMETERS), "row");
-                write!(f, "{all} wanted ({rows} of {columns})")
+                write!(f, "expected {all} ({rows} of {columns})")
             }
         }
     }
@@ -79,7 +79,7 @@ impl Seen<'_> {
         if usize::try_from(said) == Ok(names) {
             return Ok(None);
         }
-        self.place().say(format_args!("{said}, {names} wanted, as many as names (911 1)"))
+        self.place().say(format_args!("{said}, expected {names}, the number of names (911 1)"))
     }
 
     /// Says that a length is no multiple of the module.
@@ -92,7 +92,7 @@ impl Seen<'_> {
             if word.number() == Some(length) {
                 let place = before.saturating_add(1);
                 return self.at(word.at).say(format_args!(
-                    "{length} at place {place}, a multiple of the module {module} wanted"
+                    "{length} at place {place}, expected a multiple of the module, {module}"
                 ));
             }
         }
@@ -107,6 +107,6 @@ impl Seen<'_> {
         if sum <= MOST_TARGETS_TOGETHER {
             return Ok(None);
         }
-        self.place().say(format_args!("{sum} together, at most {MOST_TARGETS_TOGETHER} wanted"))
+        self.place().say(format_args!("{sum} together, expected at most {MOST_TARGETS_TOGETHER}"))
     }
 }

@@ -25,7 +25,7 @@ enum Wrong {
 }
 
 impl Seen<'_> {
-    /// What is wrong with an item, where it is.
+    /// What is wrong with an item, if something is.
     fn complaint(&self, wrong: Wrong) -> Said {
         match wrong {
             Wrong::Missing | Wrong::Twice => Ok(None),
@@ -66,7 +66,7 @@ fn of_items(file: &Refused<'_>, key: Key, wrong: Wrong) -> Said {
     Ok(None)
 }
 
-/// Why an instruction file is refused, in lines of text, given its fault. None where nothing in the file is as the
+/// Returns why an instruction file is refused, in lines of text, given its fault. None if nothing in the file is as the
 /// fault says. Refused as `Memory` alone.
 pub fn apt_reason(alloc: Global, source: &Source<'_>, fault: &AptFault) -> Said {
     let file = Refused {
@@ -107,8 +107,8 @@ pub(crate) fn stems_reason(file: &Refused<'_>, fault: &StmFault) -> Said {
     of_items(file, key, wrong)
 }
 
-/// Why a stem file is refused, in lines of text, given its fault. None where nothing in the file is as the fault says.
-/// Refused where a growth was.
+/// Returns why a stem file is refused, in lines of text, given its fault. None if nothing in the file is as the fault
+/// says. Refused as `Memory` alone.
 pub fn stm_reason(alloc: Global, source: &Source<'_>, fault: &StmFault) -> Said {
     let file = Refused {
         alloc,

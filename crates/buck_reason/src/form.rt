@@ -94,7 +94,7 @@ impl<'a> Refused<'a> {
         group
     }
 
-    /// The item of a slot that stands behind the one that begins a group, and before the next such one.
+    /// The item of a slot between the one that begins a group and the next such one.
     pub(crate) fn member(&self, opener: &Item<'_>, slot: Slot) -> Option<Item<'a>> {
         for item in self.source.items_after(opener) {
             if self.opens(&item) {
@@ -115,7 +115,7 @@ impl<'a> Seen<'a> {
         self.file.member(&group.opener, slot)
     }
 
-    /// A place in it, where a byte is what is spoken of.
+    /// A place in it, at a byte.
     pub(crate) fn at(&self, byte: usize) -> Place<'a> {
         let whose = match self.row.level {
             Level::Head => None,
@@ -130,14 +130,14 @@ impl<'a> Seen<'a> {
         }
     }
 
-    /// Its place, where no byte of it is spoken of.
+    /// Its place, without a byte.
     pub(crate) fn place(&self) -> Place<'a> {
         self.at(self.item.at)
     }
 }
 
 impl Place<'_> {
-    /// Says what is wrong there, behind the place, the name of the item, and whose it is.
+    /// Says what is wrong there, after the place, the name of the item, and whose it is.
     pub(crate) fn say<T: fmt::Display + Drop>(&self, words: T) -> Said {
         let Key { number, kind } = self.key;
         let name = self.name;

@@ -1,4 +1,4 @@
-//! The items of a file, each with the place where it stands.
+//! The items of a file, each with its place.
 ghost use Rattle.std.specs.Prelude.{◌<◌, length, IfSome};
 ghost use Rattle.std.specs.Iterator.{at_most};
 
@@ -14,7 +14,7 @@ pub struct Key {
 }
 
 impl Key {
-    /// The head of a slot.
+    /// Returns the head of a slot.
     pub fn of(slot: Slot) -> Key {
         Key {
             number: slot.number,
@@ -22,7 +22,7 @@ impl Key {
         }
     }
 
-    /// Whether an item with this head stands in a slot.
+    /// Returns whether an item with this head is in a slot.
     pub fn is(self, slot: Slot) -> bool {
         self.number == slot.number && self.kind == slot.kind
     }
@@ -41,12 +41,12 @@ pub struct Word<'a> {
 }
 
 impl Word<'_> {
-    /// Its number, where it is one.
+    /// Returns its number, if it is one.
     pub fn number(&self) -> Option<u32> {
         number(self.text).ok()
     }
 
-    /// Its number, where that can be one of an item's head.
+    /// Its number, if it can be one of an item's head.
     fn head(&self) -> Option<u16> {
         match self.number() {
             Some(number) => u16::try_from(number).ok(),
@@ -77,7 +77,7 @@ fn cut_word(text: &[u8]) -> Option<Cut<'_>>
     })
 }
 
-/// The words of a text between white bytes.
+/// The words of a text, separated by whitespace.
 #[derive(Clone, Copy, Drop)]
 pub struct Words<'a> {
     rest: &'a [u8],
@@ -109,7 +109,7 @@ fn trim_end(bytes: &[u8]) -> &[u8] {
     }
 }
 
-/// The first piece of a file that isn't empty, without white bytes at both ends, if there is one.
+/// The first piece of a file that isn't empty, without whitespace at both ends, if there is one.
 fn cut_piece(bytes: &[u8]) -> Option<Cut<'_>>
     ensures shorter { IfSome result (λ c. length c.after.now < length bytes.now) }
 {
@@ -140,7 +140,7 @@ impl<'a> Item<'a> {
         }
     }
 
-    /// Its number and its kind, where it has a head.
+    /// Returns its number and its kind, if it has a head.
     pub fn key(&self) -> Option<Key> {
         let mut words = self.all_words();
         let number = words.next()?.head()?;
@@ -148,7 +148,7 @@ impl<'a> Item<'a> {
         Some(Key { number, kind })
     }
 
-    /// Whether it stands in a slot.
+    /// Returns whether it is in a slot.
     pub fn is(&self, slot: Slot) -> bool {
         match self.key() {
             Some(key) => key.is(slot),
@@ -156,7 +156,7 @@ impl<'a> Item<'a> {
         }
     }
 
-    /// The words behind the head.
+    /// Returns the words after the head.
     pub fn words(&self) -> Words<'a> {
         let mut words = self.all_words();
         let _ = words.next();
@@ -164,7 +164,7 @@ impl<'a> Item<'a> {
         words
     }
 
-    /// The bytes behind the head.
+    /// Returns the bytes after the head.
     pub fn rest(&self) -> &'a [u8] {
         let words = self.words();
         match words.rest.iter().position(|b| !is_white(*b)) {
@@ -173,7 +173,7 @@ impl<'a> Item<'a> {
         }
     }
 
-    /// The word at a place behind the head, counted from 1; the last byte where there is none.
+    /// Returns the word at a place after the head, counted from 1; the last byte if there is none.
     pub fn word(&self, place: usize) -> Word<'a> {
         self.words().nth(place.saturating_sub(1)).unwrap_or(Word {
             text: &[],
@@ -181,12 +181,12 @@ impl<'a> Item<'a> {
         })
     }
 
-    /// How many words there are behind the head.
+    /// Returns the number of words after the head.
     pub fn count(&self) -> usize {
         self.words().count()
     }
 
-    /// The place of the first word behind the head that is no number, counted from 1, if there is one.
+    /// Returns the place of the first word after the head that is not a number, counted from 1, if there is one.
     pub fn wrong_place(&self) -> Option<usize> {
         let before = self.words().position(|word| word.number().is_none())?;
         Some(before.saturating_add(1))
@@ -201,12 +201,12 @@ pub struct Items<'a> {
 }
 
 impl<'a> Items<'a> {
-    /// The items of all bytes of a file.
+    /// Returns the items of all bytes of a file.
     pub fn of(bytes: &'a [u8]) -> Items<'a> {
         Items { rest: bytes, at: 0 }
     }
 
-    /// The items from a byte on, by its index from 0.
+    /// Returns the items from a byte on, by its index from 0.
     pub fn from(bytes: &'a [u8], at: usize) -> Items<'a> {
         match bytes.split_at_checked(at) {
             Some((_, rest)) => Items { rest, at },

@@ -13,7 +13,7 @@ use buck_record::{Described, Level, Slot};
 use std::alloc::Global;
 use std::fmt;
 
-/// The items of a posting behind its first, which has this head.
+/// The items of a posting after its first, which has this head.
 fn members_of(key: Key) -> &'static [Described] {
     let all: &'static [Described] = &ITEMS;
     let Some(opener) = all.iter().position(|row| key_of(row) == key) else {
@@ -36,7 +36,7 @@ struct Due {
 }
 
 impl Due {
-    /// What may stand behind an item.
+    /// What may follow an item.
     fn after(self, key: Key) -> Due {
         match self.lacks {
             [_] => Due {
@@ -74,15 +74,15 @@ impl fmt::Display for Named {
 impl fmt::Display for Due {
     fn fmt<W: fmt::Write>(&self, f: &mut fmt::Formatter<W>) -> fmt::Result {
         match self.lacks {
-            [row, ..] => write!(f, "{} wanted", Tag(row)),
+            [row, ..] => write!(f, "expected {}", Tag(row)),
             [] if self.in_sheets => write!(
                 f,
-                "{} or {} or {} wanted",
+                "expected {}, {} or {}",
                 Named(SHEET),
                 Named(CUT),
                 Named(DEMAND)
             ),
-            [] => write!(f, "{} or {} wanted", Named(CUT), Named(DEMAND)),
+            [] => write!(f, "expected {} or {}", Named(CUT), Named(DEMAND)),
         }
     }
 }
@@ -98,7 +98,7 @@ impl fmt::Display for Inside<'_> {
             return write!(f, "in posting {postings}");
         }
         if postings == 0 {
-            return write!(f, "after the sheets");
+            return write!(f, "after the prices");
         }
         write!(f, "after {}", Several(postings, "posting"))
     }
@@ -124,9 +124,9 @@ fn no_journal(alloc: Global, source: &Source<'_>) -> Said {
     match source.items().next() {
         Some(item) => source.here(item.at).say(
             alloc,
-            format_args!("{}, 1 2 JRN~ wanted", Quoted(item.text)),
+            format_args!("{}, expected 1 2 JRN~", Quoted(item.text)),
         ),
-        None => source.whole().say(alloc, "empty, 1 2 JRN~ wanted"),
+        None => source.whole().say(alloc, "empty, expected 1 2 JRN~"),
     }
 }
 
@@ -145,7 +145,7 @@ fn misplaced(alloc: Global, source: &Source<'_>, place: usize) -> Said {
         let posting = due.postings;
         return source.here(end_of(source)).say(
             alloc,
-            format_args!("ends in the middle of posting {posting}, {due}"),
+            format_args!("ends within posting {posting}, {due}"),
         );
     };
     let Some(Key { number, kind }) = item.key() else {
@@ -177,19 +177,20 @@ impl Seen<'_> {
             return self.no_number();
         }
         let rest = Quoted(self.item.rest());
-        self.place().say(format_args!("{rest}, one number wanted"))
+        self.place()
+            .say(format_args!("{rest}, expected one number"))
     }
 
     /// Says that it has too few or too many numbers, or is one posting too many.
     fn surplus(&self) -> Said {
         if self.row.level == Level::Opener && self.item.count() == self.row.slots.len() {
-            let words = format_args!("at most {MOST_POSTINGS} postings wanted");
+            let words = format_args!("expected at most {MOST_POSTINGS} postings");
             return self.place().say(words);
         }
         self.miscounted()
     }
 
-    /// Says that a number is out of its range, or that a zone doesn't start behind the one before.
+    /// Says that a number is out of its range, or that a zone doesn't start after the one before.
     fn outside(&self) -> Said {
         let said = self.out_of_range()?;
         if said.is_some() {
@@ -199,8 +200,8 @@ impl Seen<'_> {
     }
 }
 
-/// Why a journal is refused, in lines of text, given its fault. None where nothing in the journal is as the fault says.
-/// Refused as `Memory` alone.
+/// Returns why a journal is refused, in lines of text, given its fault. None if nothing in the journal is as the fault
+/// says. Refused as `Memory` alone.
 pub fn journal_reason(alloc: Global, source: &Source<'_>, fault: &JournalFault) -> Said {
     let file = Refused {
         alloc,

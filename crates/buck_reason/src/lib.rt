@@ -1,4 +1,4 @@
-//! Why a file is refused, in words: what stands there, and what is wanted.
+//! Why a file is refused, in words: what is there, and what is expected.
 //!
 //! [`apt_reason`], [`stm_reason`] and [`journal_reason`] say it of the three kinds of file, and [`request_reason`] of a
 //! request, from the bytes and the fault: in which line it is, of which item, and of whose. They take any bytes and any

@@ -32,7 +32,7 @@ impl Seen<'_> {
         let text = Quoted(word.text);
         let most = u32::MAX;
         self.at(word.at).say(format_args!(
-            "{text} at place {place}, digits alone wanted, at most {most}"
+            "{text} at place {place}, expected digits alone, at most {most}"
         ))
     }
 
@@ -42,12 +42,12 @@ impl Seen<'_> {
         let length = name.len();
         if length < 1 || most < length {
             return self.place().say(format_args!(
-                "{length} bytes, 1 to {most} bytes, none of them a control byte, | or ~ wanted"
+                "{length} bytes, expected 1 to {most} bytes, none of them a control byte, | or ~"
             ));
         }
         match name.iter().find(|byte| is_no_letter(**byte)) {
             Some(byte) => self.place().say(format_args!(
-                "byte {byte}, 1 to {most} bytes, none of them a control byte, | or ~ wanted"
+                "byte {byte}, expected 1 to {most} bytes, none of them a control byte, | or ~"
             )),
             None => Ok(None),
         }
@@ -64,7 +64,7 @@ impl Seen<'_> {
             let value = word.number().unwrap_or(0);
             if value < least || most < value {
                 return self.at(word.at).say(format_args!(
-                    "{value} at place {place}, {least} to {most} wanted"
+                    "{value} at place {place}, expected {least} to {most}"
                 ));
             }
             place = place.saturating_add(1);
@@ -91,7 +91,7 @@ impl Seen<'_> {
                 match before {
                     Some(before) if value <= before => {
                         return self.at(word.at).say(format_args!(
-                            "{value} at place {place}, more than {before} wanted"
+                            "{value} at place {place}, expected more than {before}"
                         ));
                     }
                     _ => before = Some(value),
@@ -107,7 +107,7 @@ impl Seen<'_> {
         let most = self.sibling(DIAMETERS).and_then(|lower| greatest(&lower));
         match (smallest(&self.item), most) {
             (Some(least), Some(most)) if least <= most => self.place().say(format_args!(
-                "{least}, more than {most} wanted, the greatest of lower diameters (915 1)"
+                "{least}, expected more than {most}, the greatest of lower diameters (915 1)"
             )),
             _ => Ok(None),
         }

@@ -21,22 +21,22 @@ impl<'a> Source<'a> {
         self.items().filter(|item| item.is(slot)).count()
     }
 
-    /// The item that has the prices of a version, if there is one.
+    /// Returns the item that has the prices of a version, if there is one.
     pub fn sheet_item(&self, version: u32) -> Option<Item<'a>> {
         self.nth_of(SHEET, version as usize)
     }
 
-    /// The item that a stem begins with, whose place among the stems is counted from 0.
+    /// Returns the item that a stem begins with, by its index among the stems, from 0.
     pub fn stem_item(&self, place: usize) -> Option<Item<'a>> {
         self.nth_of(STEM, place)
     }
 
-    /// How many stems begin in it.
+    /// Returns the number of stems that begin in it.
     pub fn stems(&self) -> usize {
         self.count_of(STEM)
     }
 
-    /// An item of a posting: the posting's place among all, and the item's in it, are counted from 0.
+    /// Returns an item of a posting, by the posting's index among all, and its own within the posting, both from 0.
     pub fn posting_item(&self, posting: usize, part: usize) -> Option<Item<'a>> {
         let mut begun = 0usize;
         let mut parts = 0usize;

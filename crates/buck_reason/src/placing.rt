@@ -17,7 +17,7 @@ pub(crate) fn headless(alloc: Global, source: &Source<'_>, place: usize) -> Said
         return Ok(None);
     };
     let mark = if place == 1 && source.bytes.starts_with(BYTE_MARK) {
-        "\n  the file begins with a byte mark (UTF-8 with BOM): save it without one"
+        "\n  the file begins with a byte order mark (UTF-8 with BOM): save it without one"
     } else {
         ""
     };
@@ -25,7 +25,7 @@ pub(crate) fn headless(alloc: Global, source: &Source<'_>, place: usize) -> Said
     source.here(item.at).say(
         alloc,
         format_args!(
-            "item {place}, {text}, two numbers from 0 to 65535 and a blank wanted at its beginning{mark}"
+            "item {place}, {text}, expected two numbers from 0 to 65535 and whitespace at its beginning{mark}"
         ),
     )
 }
@@ -39,19 +39,19 @@ impl Refused<'_> {
                 let here = self.source.here(item.at);
                 here.say(
                     self.alloc,
-                    format_args!("kind of file (1 2): {kind}, {name} wanted"),
+                    format_args!("kind of file (1 2): {kind}, expected {name}"),
                 )
             }
             None => self.source.whole().say(
                 self.alloc,
-                format_args!("kind of file (1 2): not there, 1 2 {name}~ wanted"),
+                format_args!("kind of file (1 2): missing, expected 1 2 {name}~"),
             ),
         }
     }
 
     /// Says that an item is not there at all.
     fn not_there(&self, row: &'static Described) -> Said {
-        let words = format_args!("{}: not there, one wanted", Tag(row));
+        let words = format_args!("{}: missing, expected one", Tag(row));
         self.source.whole().say(self.alloc, words)
     }
 
@@ -67,7 +67,7 @@ impl Refused<'_> {
             ) if found.level == Level::Member => self.source.here(item.at).say(
                 self.alloc,
                 format_args!(
-                    "{}: stands before the first {}, after it wanted",
+                    "{}: comes before the first {}, expected after it",
                     Tag(found),
                     Tag(row)
                 ),
@@ -93,7 +93,7 @@ impl Refused<'_> {
                     item,
                     row,
                 };
-                return seen.place().say("not there, one wanted");
+                return seen.place().say("missing, expected one");
             }
         }
         Ok(None)
@@ -125,11 +125,11 @@ impl Refused<'_> {
                     row,
                 };
                 if self.source.is_line() {
-                    return seen.place().say("stands twice, one wanted");
+                    return seen.place().say("given twice, expected once");
                 }
                 let line = self.source.line(before.at);
                 return seen.place().say(format_args!(
-                    "stands twice, first in line {line}, one wanted"
+                    "given twice, first in line {line}, expected once"
                 ));
             }
             first = Some(item);

@@ -16,13 +16,13 @@ fn is_unopened(file: &Refused<'_>) -> bool {
         .is_some_and(|seen| seen.row.level == Level::Member)
 }
 
-/// Whether it is refused since it asks for two things.
+/// Whether it is refused because it asks for two things.
 fn is_second(source: &Source<'_>, key: Key) -> bool {
     key.is(STEM) || (key.is(NEW_TARGETS) && source.count_of(NEW_TARGETS) == 1)
 }
 
-/// Why a request is refused, in lines of text, given its fault. None where nothing in it is as the fault says. Refused
-/// as `Memory` alone.
+/// Returns why a request is refused, in lines of text, given its fault. None if nothing in it is as the fault says.
+/// Refused as `Memory` alone.
 pub fn request_reason(alloc: Global, source: &Source<'_>, fault: &StmFault) -> Said {
     let file = Refused {
         alloc,
@@ -35,19 +35,19 @@ pub fn request_reason(alloc: Global, source: &Source<'_>, fault: &StmFault) -> S
             if Key { number, kind }.is(STEM) && !is_unopened(&file) => {
             return source.whole().say(
                 alloc,
-                "a stem (951 1 and more) or new targets (982 2) wanted",
+                "expected a stem (951 1 and more) or new targets (982 2)",
             );
         }
         StmFault::Twice { number, kind } if is_second(source, Key { number, kind }) => {
             (
                 Key { number, kind },
-                "a second request in one line, one wanted",
+                "a second request in one line, expected one",
             )
         }
         StmFault::Order { number, kind } if Key { number, kind }.is(HARVESTER) => {
             (
                 Key { number, kind },
-                "stands after other items, before them wanted",
+                "comes after other items, expected before them",
             )
         }
         _ => return stems_reason(&file, fault),

@@ -42,7 +42,7 @@ impl fmt::Display for Tag {
     }
 }
 
-/// The number and the kind of a described item.
+/// Returns the number and the kind of a described item.
 pub fn key_of(row: &Described) -> Key {
     match row.slots.first() {
         Some(slot) => Key::of(*slot),

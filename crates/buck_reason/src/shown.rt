@@ -68,7 +68,7 @@ impl fmt::Display for Shown<'_> {
     }
 }
 
-/// A text in quotes: its first 32 bytes, and two points where it goes on.
+/// A text in quotes: its first 32 bytes, and two points if it goes on.
 #[derive(Clone, Copy)]
 pub struct Quoted<'a>(pub &'a [u8]);
 

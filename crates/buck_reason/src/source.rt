@@ -5,7 +5,7 @@ use buck_record::Memory;
 use std::alloc::Global;
 use std::fmt;
 
-/// Why a file is refused, in lines of text; none where nothing in it is as the fault says.
+/// Why a file is refused, in lines of text; none if nothing in it is as the fault says.
 pub type Said = Result<Option<String>, Memory>;
 
 /// A file that was read, or one line of it: its name as it was given, and its bytes.
@@ -13,7 +13,7 @@ pub type Said = Result<Option<String>, Memory>;
 pub struct Source<'a> {
     pub name: &'a [u8],
     pub bytes: &'a [u8],
-    /// The line that the bytes are, counted from 1, where they are one.
+    /// The line that the bytes are, counted from 1, if they are one line.
     only: Option<usize>,
 }
 
@@ -21,7 +21,7 @@ pub struct Source<'a> {
 #[derive(Clone, Copy)]
 pub struct Here<'a> {
     pub name: &'a [u8],
-    /// The line, counted from 1, where it is of one.
+    /// The line, counted from 1, if the place is in one.
     pub line: Option<usize>,
 }
 
@@ -36,14 +36,14 @@ impl fmt::Display for Here<'_> {
 }
 
 impl Here<'_> {
-    /// These words of the place, as a line of text.
+    /// Returns these words of the place, as a line of text.
     pub fn say<T: fmt::Display + Drop>(&self, alloc: Global, words: T) -> Said {
         Ok(Some(format!(in alloc; "{self}: {words}\n")?))
     }
 }
 
 impl<'a> Source<'a> {
-    /// A whole file.
+    /// Returns a whole file.
     pub fn of_file(name: &'a [u8], bytes: &'a [u8]) -> Source<'a> {
         Source {
             name,
@@ -52,7 +52,7 @@ impl<'a> Source<'a> {
         }
     }
 
-    /// One line of a file, by its number, counted from 1.
+    /// Returns one line of a file, by its number, counted from 1.
     pub fn of_line(name: &'a [u8], bytes: &'a [u8], line: usize) -> Source<'a> {
         Source {
             name,
@@ -66,19 +66,19 @@ impl<'a> Source<'a> {
         self.only.is_some()
     }
 
-    /// Its items, and its pieces without a head.
+    /// Returns its items, and its pieces without a head.
     pub fn items(&self) -> Items<'a> {
         Items::of(self.bytes)
     }
 
-    /// The items behind one of its items.
+    /// Returns the items after one of its items.
     pub fn items_after(&self, item: &Item<'_>) -> Items<'a> {
         let mut items = Items::from(self.bytes, item.at);
         let _ = items.next();
         items
     }
 
-    /// The line of a byte, counted from 1.
+    /// Returns the line of a byte, counted from 1.
     pub fn line(&self, at: usize) -> usize {
         if let Some(line) = self.only {
             return line;
@@ -91,7 +91,7 @@ impl<'a> Source<'a> {
         ended.saturating_add(1)
     }
 
-    /// The line of a byte, as it is named.
+    /// Returns the line of a byte, as it is named.
     pub fn here(&self, at: usize) -> Here<'a> {
         Here {
             name: self.name,
@@ -99,7 +99,7 @@ impl<'a> Source<'a> {
         }
     }
 
-    /// The file, or its line, as it is named.
+    /// Returns the file, or its line, as it is named.
     pub fn whole(&self) -> Here<'a> {
         Here {
             name: self.name,

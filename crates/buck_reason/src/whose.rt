@@ -6,7 +6,7 @@ use std::fmt;
 /// The most bytes of a stem's number that are shown.
 const MOST: usize = 20;
 
-/// What the items between one opener and the next belong to.
+/// The owner of the items between one opener and the next.
 #[derive(Clone, Copy)]
 pub enum Kind {
     Assortment,

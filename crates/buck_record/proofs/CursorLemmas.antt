@@ -86,7 +86,7 @@ pub is_cut : (text part piece left : List ℕ) → part ≡ before_first is_tild
     → piece ≡ trim part → IsCut text piece left
 is_cut text part piece left is after cut = record { trimmed = cut ∙ ap trim is; after = after }
 
--- what is left is shorter, where there is something
+-- what is left is shorter, if there is something
 pub cut-shorter : (text piece left : List ℕ) → IsCut text piece left → 0 < length text → length left < length text
 cut-shorter text piece left c some =
     rw c.after (omega (arith, some, length-drop (position_or_len is_tilde text + 1) text))

@@ -45,14 +45,14 @@ module _ (text : List ℕ) (i : ℕ) (digits : AreDigits (take i text)) where
             ∙ passes_at_first is_white text 0 (omega arith)))
       ]
 
-  -- it ends at a white byte, or with the text
+  -- it ends at a whitespace byte, or with the text
   ends : i ≤ length text → (i < length text → is_white (get_or text i 0) ≡ true) → position_or_len is_white text ≡ i
   ends within end = position_or_len_is is_white text i 0 within (none_white within) end
 
   bounded : position_or_len is_white text ≤ length text
   bounded = prefix_len-le-length (λ b. not (is_white b)) text
 
-  -- the word is the digits, and the rest begins after the white byte
+  -- the word is the digits, and the rest begins after the whitespace byte
   pub word_is : i ≤ length text → (i < length text → is_white (get_or text i 0) ≡ true) → first_word text ≡ take i text
   unfolding first_word
   word_is within end = ap (λ n. take n text) (ends within end)

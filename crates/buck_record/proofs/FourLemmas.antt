@@ -74,7 +74,6 @@ module _ (text : List ℕ) (long : 16 ≤ length text) (fits : (k : ℕ) → Fit
       let byte : (k : ℕ) → get_or text k 0 < 256 = λ k. (fits k).fits in
       record {
         long = omega (arith, length-drop 16 text);
-        small = λ i h. omega (arith, (t i h).value, (t i h).digits);
         first = front_at text 0 _ _ (omega arith) byte (word 0 (omega arith)) (t 0 (omega arith));
         second = front_at text 4 _ _ (omega arith) byte (word 1 (omega arith)) (t 1 (omega arith));
         third = front_at text 8 _ _ (omega arith) byte (word 2 (omega arith)) (t 2 (omega arith));

@@ -1,20 +1,18 @@
--- Three digits and a blank as one number of four bytes, and as the front of a text.
-use Rattle.std.proofs.Common.{◌≡◌, ℕ, None, ◌+◌, ◌*◌, ◌<◌, ◌≤◌, ◌/◌, ◌%◌, true, List, [], ◌∷◌, Some, length, get_or, take, drop, refl, sym, ap, ◌∙◌, arith, length-take-le, length-drop, w32, false, not, ◌&&◌, nat_le, inl, inr}
+-- Three digits and a space as one number of four bytes, and as the front of a text.
+use Rattle.std.proofs.Common.{◌≡◌, ℕ, ◌+◌, ◌*◌, ◌<◌, ◌≤◌, ◌/◌, ◌%◌, true, List, [], ◌∷◌, Some, length, get_or, take, drop, refl, sym, ◌∙◌, arith, length-take-le, length-drop, w32, false, not}
 use Rattle.std.specs.Int.{from_le_bytes}
-use Rattle.std.specs.Option.{unwrap_or, is_some}
 use Rattle.std.specs.Char.{is_ascii_digit, digit_value}
 use Rattle.std.specs.Str.Parse.{digits_value}
 use Rattle.std.proofs.lemmas.Bool.Decides.{nat_tests}
 use Rattle.std.proofs.lemmas.Int.Digits.{digits_value_more}
-use Rattle.std.specs.List.{position_or_len, list_all}
+use Rattle.std.specs.List.{position_or_len}
 use Rattle.std.proofs.lemmas.List.Sums.{prefix_len-le-length}
-use Rattle.std.proofs.lemmas.Bool.{cases_Bool, false≢true, cond-true, cond-false, ltb-true}
-use Rattle.buck_record.specs.bytes.White.{is_filled, is_white, first_word, after_word}
+use Rattle.buck_record.specs.bytes.White.{is_white, first_word, after_word}
 use Rattle.buck_record.specs.bytes.Record.{number_at_most}
-use Rattle.buck_record.proofs.NumberLemmas.{AreDigits, digits-more, and_parts, number-some}
+use Rattle.buck_record.proofs.NumberLemmas.{AreDigits, digits-more}
 use Rattle.buck_record.proofs.CutLemmas.{goes_on, word_is, after_is, cut-whole}
 use Rattle.buck_record.proofs.WordLemmas.{words-more}
-use Rattle.buck_record.specs.inner.Front.{IsThree, IsFront, Run}
+use Rattle.buck_record.specs.inner.Front.{IsThree, IsFront}
 
 -- Four bytes less "000 " are three digits, the lowest first, and nothing above them.
 pub three : (g z : ℕ)
@@ -34,7 +32,7 @@ three g z fits is a b c =
 pub four_bytes : (p q r s : ℕ) → from_le_bytes w32 (p ∷ q ∷ r ∷ s ∷ []) ≡ p + 256 * q + 65536 * r + 16777216 * s
 four_bytes p q r s = omega arith
 
--- A text that begins with i digits and a white byte.
+-- A text that begins with i digits and a whitespace byte.
 pub front-digits : (text : List ℕ) (i v : ℕ)
     → AreDigits (take i text) → 0 < i → i < length text → is_white (get_or text i 0) ≡ true
     → v ≡ digits_value 10 (take i text) → v ≤ 4294967295 → IsFront text v (drop (i + 1) text)
@@ -87,7 +85,7 @@ front-three text v long byte t =
     (omega (arith, t.value, v0, v1, v2, v3, d0.1, d1.1, d2.1))
     (omega (arith, t.value, t.digits))
 
--- a text that begins with no white byte has a first word
+-- a text that begins with no whitespace byte has a first word
 pub filled_word : (text : List ℕ) → 0 < length text → is_white (get_or text 0 0) ≡ false → 0 < length (first_word text)
 unfolding first_word
 filled_word text some dark =
@@ -107,60 +105,16 @@ left_is text filled =
     let rest = length-drop (p + 1) text in
     (omega (arith, filled, within, word, rest), λ more. omega (arith, more, filled, within, word, rest))
 
-some_is : (m n : ℕ) → Some m ≡ Some n → m ≡ n
-some_is m n h = ap (λ o. unwrap_or o 0) h
-
-none_is : (n : ℕ) → None ≡ Some n → ⊥
-none_is n h = absurd (false≢true (ap is_some h))
-
--- a number within one bound, and within another
-pub number_within : (most other n : ℕ) (word : List ℕ)
-    → n ≤ other → number_at_most most word ≡ Some n → number_at_most other word ≡ Some n
-unfolding number_at_most
-number_within most other n word low is =
-    elim (cases_Bool (is_filled word && (list_all is_ascii_digit word && nat_le (digits_value 10 word) most))) [
-      | inl passed ↦
-          let a = and_parts _ _ passed in
-          let b = and_parts _ _ a.1 in
-          let v : digits_value 10 word ≡ n = some_is _ _ (sym (cond-true _ _ _ passed) ∙ is) in
-          number-some other word b.0 (ltb-true _ _ a.0) (omega (arith, v, low)) ∙ ap Some v
-      | inr missed ↦ absurd (none_is n (sym (cond-false _ _ _ missed) ∙ is))
-    ]
-
 -- A text with a first word that is a number.
-pub front-word : (text left : List ℕ) (most v : ℕ)
+pub front-word : (text left : List ℕ) (v : ℕ)
     → 0 < length (first_word text)
-    → v ≤ 4294967295
-    → Some v ≡ number_at_most most (first_word text)
+    → Some v ≡ number_at_most 4294967295 (first_word text)
     → left ≡ after_word text
     → IsFront text v left
-front-word text left most v filled wide value after =
-    let s = left_is text filled in
-    record {
-      after = after;
-      words = words-more text left filled after;
-      value = number_within most 4294967295 v (first_word text) wide (sym value);
-      shorter = rw after s.0;
-      room = rw after s.1;
-    }
-
--- a byte less 48 is at most 9
-is_digit_byte : (x d : ℕ) → x < 256 → d ≡ (x + 208) % 256 → d ≤ 9 → x ≡ 48 + d
-is_digit_byte x d byte is small = omega (arith, byte, is, small)
-
--- one digit more
-pub run_more : (text : List ℕ) (n v d u : ℕ)
-    → Run text n v → n < length text → get_or text n 0 < 256 → d ≡ (get_or text n 0 + 208) % 256 → d ≤ 9
-    → u ≡ v * 10 + d → Run text (n + 1) u
-run_more text n v d u run inside byte is small more =
-    let e = digit (get_or text n 0) d small (is_digit_byte (get_or text n 0) d byte is small) in
-    record {
-      digits = digits-more text n inside run.digits e.0;
-      value = omega (arith, digits_value_more 10 text n inside, run.value, e.1, more);
-    }
-
-pub run_front : (text : List ℕ) (n v : ℕ)
-    → Run text n v → 0 < n → n < length text → is_white (get_or text n 0) ≡ true → v ≤ 9999
-    → IsFront text v (drop (n + 1) text)
-run_front text n v run some inside white small =
-    front-digits text n v run.digits some inside white run.value (omega (arith, small))
+front-word text left v filled value after = record {
+  after = after;
+  words = words-more text left filled after;
+  value = sym value;
+  shorter = rw after (left_is text filled).0;
+  room = rw after (left_is text filled).1;
+}

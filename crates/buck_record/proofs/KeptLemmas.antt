@@ -8,7 +8,7 @@ use Rattle.buck_record.specs.declared.slot.Slot.{Slot}
 use Rattle.buck_record.specs.Reading.{with_front, each_from}
 use Rattle.buck_record.specs.bytes.Record.{item_of, items_of, pieces}
 use Rattle.buck_record.specs.checking.Table.{is_in, only_in}
-use Rattle.buck_record.proofs.EachLemmas.{each_start}
+use Rattle.buck_record.proofs.EachLemmas.{start}
 
 module _ (slots : List Slot) where
   -- what is held, and what is still to be read after so many items
@@ -17,7 +17,7 @@ module _ (slots : List Slot) where
 
   pub at-start : (bytes : List ℕ) → reads_at [] 0 (pieces bytes) ≡ only_in slots (items_of bytes)
   unfolding items_of
-  at-start bytes = each_start _
+  at-start bytes = start _
 
   front-in : (held : List ItemParts) (item : ItemParts) (rest : Result (List ItemParts) ℕ) → is_in slots item ≡ true
       → with_front held (only_in slots (with_front (item ∷ []) rest))

@@ -119,7 +119,7 @@ number_word : (n w : ℕ) (ys : List ℕ) → n < 2 ^ 64 → is_white w ≡ true
     → (first_word (decimal n ++ w ∷ ys) ≡ decimal n) × (after_word (decimal n ++ w ∷ ys) ≡ ys)
 number_word n w ys lt white = word_of (decimal n) w ys white (recursion_from_All _ (decimal n) (dark n lt))
 
--- what an item may say: no tilde, and no white byte at its ends
+-- what an item may say: no tilde, and no whitespace byte at its ends
 pub record IsSaid (rest : List ℕ) : Type 0 where
   pub starts : StartsDark rest
   pub ends : EndsDark rest

@@ -1,11 +1,10 @@
 -- When a word is a number.
-use Rattle.std.proofs.Common.{◌≡◌, ℕ, ◌+◌, ◌*◌, ◌<◌, ◌≤◌, Bool, true, false, nat_le, List, Some, None, length, get_or, take, refl, sym, ap, ◌∙◌, subst, arith, rules, ◌&&◌, inl, inr}
+use Rattle.std.proofs.Common.{◌≡◌, ℕ, ◌+◌, ◌*◌, ◌<◌, ◌≤◌, Bool, true, false, nat_le, List, Some, None, length, get_or, take, refl, sym, ◌∙◌, arith, rules, ◌&&◌, inl, inr}
 use Rattle.std.specs.List.{list_all}
 use Rattle.std.specs.Char.{is_ascii_digit, digit_value}
 use Rattle.std.specs.Str.Parse.{digits_value}
 use Rattle.std.proofs.lemmas.Str.Parse.{IsNumeralModel, numerals_by_value, digits_value-take-le}
 use Rattle.std.proofs.lemmas.Int.Digits.{digits_value_more}
-use Rattle.std.proofs.lemmas.List.{take_all}
 use Rattle.std.proofs.lemmas.List.Folds.{list_all_at, list_all_more}
 use Rattle.std.proofs.lemmas.Bool.{cases_Bool, false≢true, and_from, ltb-true, leb-true, le-leb, lt-ltb, cond-true, cond-false}
 use Rattle.buck_record.specs.bytes.White.{is_filled}
@@ -28,7 +27,7 @@ unfolding number_at_most
 number-some most word digits filled small =
     cond-true _ _ _ (and_from _ _ (lt-ltb _ _ filled) (and_from _ _ digits (le-leb _ _ small)))
 
--- it is no number where one of these fails
+-- it is no number if one of these fails
 pub number-none : (most : ℕ) (word : List ℕ) → (AreDigits word → 0 < length word → digits_value 10 word ≤ most → ⊥)
     → number_at_most most word ≡ None
 unfolding number_at_most
@@ -65,18 +64,3 @@ number-too_large most word i inside large =
 pub digits-more : (word : List ℕ) (i : ℕ) → i < length word → AreDigits (take i word)
     → is_ascii_digit (get_or word i 0) ≡ true → AreDigits (take (i + 1) word)
 digits-more word i inside before here = list_all_more is_ascii_digit word i 0 inside ∙ and_from _ _ before here
-
--- the digits up to the end, and what they stand for
-pub number-whole : (most : ℕ) (word : List ℕ) (i n : ℕ) → length word ≤ i → 0 < length word → AreDigits (take i word)
-    → n ≡ digits_value 10 (take i word) → n ≤ most → number_at_most most word ≡ Some n
-number-whole most word i n end filled digits value small =
-    let whole = take_all i word end in
-    let v : n ≡ digits_value 10 word = value ∙ ap (digits_value 10) whole in
-    number-some most word (subst AreDigits whole digits) filled (omega (arith, v, small)) ∙ ap Some (sym v)
-
--- the digits up to the end stand for more than `most`
-pub number-above : (most : ℕ) (word : List ℕ) (i n : ℕ) → length word ≤ i → n ≡ digits_value 10 (take i word) → most < n
-    → number_at_most most word ≡ None
-number-above most word i n end value large =
-    let v : n ≡ digits_value 10 word = value ∙ ap (digits_value 10) (take_all i word end) in
-    number-none most word (λ _ _ small. absurd (omega (arith, v, small, large)))

@@ -26,7 +26,7 @@ number-decimal most n le bound =
 pub digit_dark : (c : ℕ) → is_ascii_digit c ≡ true → is_white c ≡ false
 digit_dark c h = grind (arith, nat_tests)
 
--- no white byte in digits
+-- no whitespace byte in digits
 pub dark : (n : ℕ) → n < 2 ^ 64 → All (λ b. is_white b ≡ false) (decimal n)
 dark n lt =
     λ k d l. digit_dark (get_or (decimal n) k d)

@@ -1,4 +1,4 @@
--- Numbers with white bytes before them, and names, as what items say.
+-- Numbers with whitespace before them, and names, as what items say.
 use Rattle.std.proofs.Common.{◌≡◌, ℕ, ◌+◌, ◌-◌, ◌<◌, ◌≤◌, ◌^◌, List, [], ◌∷◌, ◌++◌, All, Ok, get_or, length, take, drop, map, refl, sym, ap, ◌∙◌, subst, arith, append_assoc, inl, inr, drop-cons, add-one}
 use Rattle.std.specs.List.{AllByRecursion, suffix_len, prefix_len}
 use Rattle.std.specs.Fmt.{decimal}
@@ -16,7 +16,7 @@ use Rattle.buck_record.proofs.RoundLemmas.{AreWhite, smaller, split-spaced, numb
 unfoldable use Rattle.buck_record.specs.writing.Written.{spaced}
 use Rattle.buck_record.proofs.LineLemmas.{IsPlain, StartsDark, EndsDark, IsSaid, ends_decimal, starts_decimal, plain_decimal, ends_append, starts_append, start_dark, white_plain}
 
--- what an item of numbers says, without the white byte after the head
+-- what an item of numbers says, without the whitespace byte after the head
 abbrev pub said : (ℕ → ℕ) → List ℕ → List ℕ
 said white numbers = drop 1 (spaced white 0 numbers)
 

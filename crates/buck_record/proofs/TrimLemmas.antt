@@ -26,7 +26,7 @@ IsBare item = trim item.rest ≡ item.rest
 abbrev pub AreBare : List ItemParts → Type 0
 AreBare items = AllByRecursion IsBare items
 
--- the text begins with no white byte, or there is none
+-- the text begins with no whitespace byte, or there is none
 start_cases : (xs : List ℕ) → (trim_start xs ≡ []) ⊎ StartsDark (trim_start xs)
 unfolding trim_start
 start_cases [] = inl refl
@@ -37,7 +37,7 @@ start_cases (x ∷ xs) =
       | inr dark ↦ rw dark (inr (omega arith, dark))
     ]
 
--- the last byte that isn't white is the last of the text without white bytes at its end
+-- the last byte that isn't white is the last of the text without whitespace at its end
 record EndsAt (ys : List ℕ) (n m : ℕ) : Type 0 where
   pub some : 0 < m
   pub within : m ≤ n

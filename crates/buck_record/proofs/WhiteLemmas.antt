@@ -1,4 +1,4 @@
--- Searches for a white byte, or for one that isn't, as the trims and words.
+-- Searches for a whitespace byte, or for one that isn't, as the trims and words.
 use Rattle.std.proofs.Common.{◌≡◌, ℕ, ◌-◌, ◌<◌, ◌≤◌, Bool, true, false, not, List, [], ◌∷◌, Some, None, length, take, get_or, refl, sym, ap, ◌∙◌, arith, inl, inr}
 use Rattle.std.specs.Prelude.{position}
 use Rattle.std.specs.List.{prefix_len, suffix_len, position_or_len}
@@ -39,9 +39,3 @@ unfolding trim_end
 trim_end-found bs end within white dark =
     let n : suffix_len is_white bs ≡ length bs - end = suffix_len_is is_white bs end 0 within white dark in
     ap (λ k. take k bs) (omega (arith, n, within))
-
-pub word-found : (bs : List ℕ) (k : ℕ) → position is_white bs ≡ Some k → position_or_len is_white bs ≡ k
-word-found bs k h = place-some is_white bs k h
-
-pub word-none : (bs : List ℕ) → position is_white bs ≡ None → position_or_len is_white bs ≡ length bs
-word-none bs h = place-none is_white bs h

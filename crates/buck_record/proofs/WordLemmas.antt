@@ -1,5 +1,5 @@
 -- The words of a text, one after the other.
-use Rattle.std.proofs.Common.{◌≡◌, ℕ, suc, ◌+◌, ◌<◌, ◌≤◌, Bool, true, false, not, List, [], ◌∷◌, length, take, drop, filter, refl, sym, ap, ◌∙◌, arith, inl, inr, take_all, length-take-le, length-drop}
+use Rattle.std.proofs.Common.{◌≡◌, ℕ, suc, ◌+◌, ◌<◌, ◌≤◌, Bool, true, false, not, List, [], ◌∷◌, length, take, drop, filter, refl, sym, ap, ◌∙◌, arith, inl, inr, take_all, length-take-le}
 use Rattle.std.specs.List.{slice_split, before_first, after_first, position_or_len, prefix_len}
 use Rattle.std.proofs.lemmas.List.{drop_all}
 use Rattle.std.proofs.lemmas.List.Splits.{slice_split_none, slice_split_first, slice_split-cons_yes}
@@ -92,27 +92,6 @@ words-first bs h = sym (words-trim_start bs) ∙ words-dark (trim_start bs) (tri
 pub words-none_left : (rest : List ℕ) → length rest ≡ 0 → words rest ≡ []
 words-none_left rest h = ap words (empty rest h) ∙ words-nil
 
-pub words-next : (text rest word after : List ℕ) → rest ≡ trim_start text → 0 < length rest → word ≡ first_word rest
-    → after ≡ after_word rest → words text ≡ word ∷ words after
-words-next text rest word after r filled w a =
-    rw (w, a, r) (words-first text (rw r at filled))
-
--- a text that was trimmed has the same words, and begins with the first of them
-pub words-trimmed : (text rest : List ℕ) → rest ≡ trim_start text → words rest ≡ words text
-words-trimmed text rest r = ap words r ∙ words-trim_start text
-
-trim_start-word : (bs : List ℕ) → 0 < length (trim_start bs) → 0 < length (first_word (trim_start bs))
-unfolding first_word
-trim_start-word bs h =
-    omega (
-      arith,
-      trim_start-dark bs h,
-      length-take-le (position_or_len is_white (trim_start bs)) (trim_start bs) (bounded is_white (trim_start bs)),
-    )
-
-pub word-trimmed : (text rest : List ℕ) → rest ≡ trim_start text → 0 < length rest → 0 < length (first_word rest)
-word-trimmed text rest r filled = rw r (trim_start-word text (rw r at filled))
-
 -- a text that begins with a word, and what is left after it
 word-dark : (text : List ℕ) → 0 < length (first_word text) → 0 < position_or_len is_white text
 unfolding first_word
@@ -121,16 +100,3 @@ word-dark text h = omega (arith, length-take-le (position_or_len is_white text) 
 pub words-more : (text after : List ℕ) → 0 < length (first_word text) → after ≡ after_word text
     → words text ≡ first_word text ∷ words after
 words-more text after h a = words-dark text (word-dark text h) ∙ ap (λ bs. first_word text ∷ words bs) (sym a)
-
-after-shorter : (text : List ℕ) → 0 < length text → length (trim_start (after_word text)) < length text
-unfolding trim_start after_word
-after-shorter text h =
-    omega (
-      arith,
-      length-drop (prefix_len is_white (after_word text)) (after_word text),
-      length-drop (position_or_len is_white text + 1) text,
-    )
-
-pub left-shorter : (text after rest : List ℕ) → 0 < length text → after ≡ after_word text → rest ≡ trim_start after
-    → length rest < length text
-left-shorter text after rest h a r = rw (r, a) (after-shorter text h)

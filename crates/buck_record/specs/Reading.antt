@@ -7,7 +7,7 @@ abbrev pub Gives : {X E : Type 0} → E → Result X E → Result X E → Type 0
 Gives memory (Ok x) read = read ≡ Ok x
 Gives memory (Err e) read = e ≢ memory → read ≡ Err e
 
--- a refused growth becomes the fault `memory`
+-- a failed allocation becomes the fault `memory`
 abbrev pub IsMemory : {A E : Type 0} → (A → E → Type 0) → E → Type 0
 IsMemory {A} {E} gives memory = (a : A) (e : E) → gives a e → e ≡ memory
 
@@ -21,7 +21,7 @@ abbrev pub with_front : {X E : Type 0} → List X → Result (List X) E → Resu
 with_front front (Ok xs) = Ok (front ++ xs)
 with_front front (Err e) = Err e
 
--- an element before a list, or the fault e where there is no element
+-- an element before a list, or the fault e if there is no element
 abbrev pub put_front : {X E : Type 0} → Option X → E → Result (List X) E → Result (List X) E
 put_front None e rest = Err e
 put_front (Some x) e rest = with_front (x ∷ []) rest

@@ -2,4 +2,3 @@
 pub(crate) mod digits;
 pub(crate) mod reading;
 pub(crate) mod white;
-pub(crate) mod words;

@@ -1,7 +1,7 @@
 //! The items of a file form, as people speak of them.
 use crate::slot::Slot;
 
-/// Where an item stands in its file.
+/// The level of an item in its file.
 #[derive(Clone, Copy, Debug, PartialEq, Eq)]
 pub enum Level {
     /// It stands once in the file.
@@ -59,7 +59,7 @@ pub struct Described {
     pub order: Order,
 }
 
-/// An item that is described by its slots, its name, its level, how many numbers it has and, where they have one, their
+/// An item that is described by its slots, its name, its level, how many numbers it has and, if they have one, their
 /// order: `described!([MODULE], "module", Head, One)`.
 #[macro_export]
 macro_rules! described {

@@ -5,7 +5,7 @@ ghost use Rattle.buck_record.specs.declared.fault.RecordFault.TheVariants.{Memor
 use std::alloc::{AllocError, AllocFailed};
 use thiserror::Error;
 
-/// What is wrong with a file or a text of numbers.
+/// Why a file or a text of numbers is refused.
 #[derive(Clone, Copy, Debug, PartialEq, Eq, Error)]
 pub enum RecordFault {
     /// The item, from 1 in file order, is the first that does not begin with two numbers of at most 65,535.
@@ -15,7 +15,7 @@ pub enum RecordFault {
     /// stands also for a text of no words, and place 2 for a second word.
     #[error("word {place} is not a number")]
     Digits { place: usize },
-    /// A growth was refused. It comes in place of any other answer of a call that takes memory.
+    /// An allocation failed. It comes in place of any other answer of a call that takes memory.
     #[error("out of memory")]
     Memory,
 }

@@ -23,7 +23,7 @@ pub trait FormFault: Drop {
 
     ghost count: { ℕ → ℕ → Self };
 
-    /// A growth was refused.
+    /// An allocation failed.
     fn out_of_memory() -> Self
         ensures { result ≡ out_of_memory };
 

@@ -8,7 +8,7 @@ pub struct Item {
     pub number: u16,
     /// The second word of the head, from 0 to 65,535.
     pub kind: u16,
-    /// The bytes after the head, as they stand, without white bytes at both ends. It may be empty.
+    /// The bytes after the head, as they stand, without whitespace at both ends. It may be empty.
     pub rest: Vec<u8>,
 }
 
@@ -27,7 +27,7 @@ pub struct Piece<'a> {
     pub number: u16,
     /// The second word of the head, from 0 to 65,535.
     pub kind: u16,
-    /// The bytes after the head, as they stand, without white bytes at both ends. It may be empty.
+    /// The bytes after the head, as they stand, without whitespace at both ends. It may be empty.
     pub rest: &'a [u8],
 }
 

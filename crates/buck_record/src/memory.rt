@@ -4,7 +4,7 @@ ghost use Rattle.std.specs.Prelude.{◌≡◌};
 use std::alloc::{AllocError, AllocFailed};
 use thiserror::Error;
 
-/// A growth was refused: there is no more memory. It comes in place of the answer that would have come, and leaves
+/// An allocation failed: there is no more memory. It comes in place of the answer that would have come, and leaves
 /// everything as it was, but for lists that are lent to be filled: their calls say what these hold then.
 #[derive(Clone, Copy, Debug, PartialEq, Eq, Error)]
 #[error("out of memory")]

@@ -1,4 +1,4 @@
-//! Faults that are told by a number and fields.
+//! Faults that are reported as a number and fields.
 ghost use Rattle.std.specs.Prelude.{◌≡◌, ◌≤◌, List, ℕ, length, drop};
 
 use std::marker::Model;
@@ -58,7 +58,7 @@ pub trait Numbered {
     /// The number, then the fields in the order of the definition. Memory that ran out has no number, and so nothing.
     ghost numbers: { Self → List ℕ };
 
-    /// The number and the fields, or nothing where memory ran out.
+    /// The number and the fields, or nothing if memory ran out.
     fn numbers(&self) -> FaultNumbers
         ensures { result ≡ numbers self.now };
 }

@@ -3,5 +3,3 @@ pub(crate) mod cursor;
 pub(crate) mod kept_numbers;
 pub(crate) mod lanes;
 pub(crate) mod parts;
-pub(crate) mod short_words;
-pub(crate) mod small_numbers;

@@ -1,4 +1,4 @@
-//! Why a journal isn't lawful, or not that of its stem files and rule, in words: what stands there, and what is wanted.
+//! Why a journal isn't lawful, or not that of its stem files and rule, in words: what is there, and what is expected.
 //!
 //! [`replay_reason`], [`rule_reason`] and the methods of [`Tied`] say it from what was read and the fault. They take
 //! any journal and any fault.

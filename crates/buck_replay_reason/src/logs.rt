@@ -21,7 +21,7 @@ impl<T: fmt::Display> fmt::Display for Apart<'_, T> {
     }
 }
 
-/// A log that can't stand where it does, and why.
+/// A log that can't be cut at its place, and why.
 #[derive(Clone, Copy)]
 pub(crate) struct WrongLog<'a> {
     instruction: &'a Instruction,
@@ -43,7 +43,7 @@ impl WrongLog<'_> {
         self.log.start.saturating_add(self.log.length)
     }
 
-    /// How thick it is at its top; 0 where it goes beyond its stem.
+    /// Its top diameter in mm; 0 if it goes beyond its stem.
     fn diameter(&self) -> u32 {
         let top = self.top();
         if top <= self.stem.length() {
@@ -53,7 +53,7 @@ impl WrongLog<'_> {
         }
     }
 
-    /// The least grade of it that its assortment doesn't take; 0 where it takes all.
+    /// The least grade of it that its assortment doesn't take; 0 if it takes all.
     fn grade(&self, assortment: &Assortment) -> u8 {
         let mut rest = self.stem.grades_between(self.log.start, self.top());
         for grade in 1..GRADES + 1 {
@@ -65,7 +65,7 @@ impl WrongLog<'_> {
         0
     }
 
-    /// Writes what is wanted of a log of this assortment.
+    /// Writes what is expected of a log of this assortment.
     fn write_why<W: fmt::Write>(
         &self,
         f: &mut fmt::Formatter<W>,
@@ -77,32 +77,32 @@ impl WrongLog<'_> {
         match self.reason {
             Reason::Order => write!(
                 f,
-                "a start from {from} on wanted, where the log before ends"
+                "expected a start from {from} on, the end of the log before"
             ),
             Reason::Assortment => Ok(()),
             Reason::Species => {
                 let found = self.stem.species();
-                write!(f, "species {found}, {} wanted", assortment.species())
+                write!(f, "species {found}, expected {}", assortment.species())
             }
-            Reason::Start => write!(f, "a start that is a multiple of {module} wanted"),
+            Reason::Start => write!(f, "expected a start that is a multiple of {module}"),
             Reason::Length => {
                 let lengths = Apart(assortment.lengths(), " ");
-                write!(f, "one of the lengths {lengths} wanted")
+                write!(f, "expected one of the lengths {lengths}")
             }
             Reason::End => {
                 let end = self.top().saturating_add(assortment.trim());
-                write!(f, "ends at {end}, at most {} wanted", self.stem.length())
+                write!(f, "ends at {end}, expected at most {}", self.stem.length())
             }
             Reason::Grade => {
                 let wanted = Apart(assortment.grades(), " or ");
-                write!(f, "grade {}, {wanted} wanted", self.grade(assortment))
+                write!(f, "grade {}, expected {wanted}", self.grade(assortment))
             }
             Reason::Diameter => {
                 let least = assortment.diameters().first().copied().unwrap_or(0);
                 let most = assortment.upper().saturating_sub(1);
-                write!(f, "{top} thick at its top, {least} to {most} wanted")
+                write!(f, "top diameter {top}, expected {least} to {most}")
             }
-            Reason::Price => write!(f, "{top} thick at its top, not bought (base price 0)"),
+            Reason::Price => write!(f, "top diameter {top}, not bought (base price 0)"),
         }
     }
 }
@@ -122,7 +122,7 @@ impl fmt::Display for WrongLog<'_> {
         let all = self.instruction.assortments();
         match all.get(usize::from(assortment)) {
             Some(found) => self.write_why(f, found),
-            None => write!(f, "an assortment below {} wanted", all.len()),
+            None => write!(f, "expected an assortment below {}", all.len()),
         }
     }
 }
@@ -134,7 +134,7 @@ fn end_of(instruction: &Instruction, log: &Log) -> u32 {
     log.start.saturating_add(log.length).saturating_add(trim)
 }
 
-/// The first of some logs that can't stand where it does. Of its reasons the last is that it starts too soon.
+/// The first of some logs that can't be cut at its place. Of its reasons the last is that it starts too soon.
 pub(crate) fn wrong_log<'a>(
     instruction: &'a Instruction,
     stem: &'a Stem,

@@ -1,4 +1,4 @@
-//! Postings, and where they stand in their file.
+//! Postings, and their places in their file.
 use buck_book::{Entry, Posting};
 use buck_journal::Journal;
 use buck_reason::{Said, Source};
@@ -28,7 +28,7 @@ impl<'a> Who<'a> {
         }
     }
 
-    /// Says words of a part of it, whose items are counted from 0, behind where that stands, and whose it is.
+    /// Says words of a part of it, whose items are counted from 0, after its place and whose it is.
     pub(crate) fn say<T: fmt::Display + Drop>(
         &self,
         alloc: Global,

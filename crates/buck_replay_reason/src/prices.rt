@@ -28,8 +28,8 @@ impl fmt::Display for Allowed {
     }
 }
 
-/// The prices that a class may have as it stands: its base price where it is on its target, up to the span more where
-/// it is under it, and down to the span less where it is over it.
+/// The prices that a class may have by its standing: its base price if it is on its target, up to the span more if
+/// it is under it, and down to the span less if it is over it.
 fn allowed_prices(standing: &Standing) -> Allowed
     requires { IsInRange standing.now }
 {
@@ -53,7 +53,7 @@ struct Price {
 }
 
 impl Price {
-    /// Says which price is wanted in its place, where that stands.
+    /// Says at its place which price is expected.
     fn say<T: fmt::Display + Drop>(
         &self,
         alloc: Global,
@@ -78,7 +78,7 @@ impl Price {
     }
 }
 
-/// Says that a price of the version in force may not be what it is, at the place where that came into force.
+/// Says that a price of the version in force is out of its bounds, at the place where it came into force.
 pub(crate) fn price_reason(
     alloc: Global,
     unlawful: &Unlawful<'_>,
@@ -105,7 +105,7 @@ pub(crate) fn price_reason(
         alloc,
         &unlawful.source,
         instruction,
-        format_args!("{allowed} wanted"),
+        format_args!("expected {allowed}"),
     )
 }
 
@@ -118,7 +118,7 @@ pub(crate) fn sheet_reason(alloc: Global, unlawful: &Unlawful<'_>, version: u32)
         let numbers = Several(classes, "number");
         return source.whole().say(
             alloc,
-            format_args!("prices (971 1) of version {version}: not there, {numbers} wanted"),
+            format_args!("prices (971 1) of version {version}: missing, expected {numbers}"),
         );
     };
     let here = source.here(item.at);
@@ -128,14 +128,14 @@ pub(crate) fn sheet_reason(alloc: Global, unlawful: &Unlawful<'_>, version: u32)
             here.say(
                 alloc,
                 format_args!(
-                    "prices (971 1) of version {version}: {numbers}, {classes} wanted, one for each class"
+                    "prices (971 1) of version {version}: {numbers}, expected {classes}, one for each class"
                 ),
             )
         }
         _ => here.say(
             alloc,
             format_args!(
-                "prices (971 1) of version {version}: one list too many, {version} wanted"
+                "prices (971 1) of version {version}: one list too many, expected {version}"
             ),
         ),
     }
@@ -154,7 +154,7 @@ pub struct Mispriced {
     pub wanted: u64,
 }
 
-/// Why the journal of a file isn't that of a rule, in a line of text. Refused as `Memory` alone.
+/// Returns why the journal of a file isn't that of a rule, in a line of text. Refused as `Memory` alone.
 pub fn rule_reason(
     alloc: Global,
     source: &Source<'_>,
@@ -177,6 +177,6 @@ pub fn rule_reason(
         alloc,
         source,
         instruction,
-        format_args!("{wanted} wanted by the rule {rule}"),
+        format_args!("expected {wanted} by the rule {rule}"),
     )
 }

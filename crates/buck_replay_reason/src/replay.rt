@@ -60,7 +60,7 @@ impl<'a> Unlawful<'a> {
             Posting::Demand(demand) => demand.number,
         };
         let wanted = walk.next_number(who.posting.harvester());
-        let words = format_args!("number {number}, {wanted} wanted");
+        let words = format_args!("number {number}, expected {wanted}");
         who.say(alloc, &self.source, CALL, words)
     }
 
@@ -74,7 +74,7 @@ impl<'a> Unlawful<'a> {
             Posting::Demand(demand) => demand.version,
         };
         let wanted = walk.version();
-        let words = format_args!("version {version}, {wanted} wanted");
+        let words = format_args!("version {version}, expected {wanted}");
         who.say(alloc, &self.source, CALL, words)
     }
 
@@ -100,7 +100,7 @@ impl<'a> Unlawful<'a> {
         let Some(wanted) = worth_if_admissible(&sheet, &entry.stem, &entry.cutting) else {
             return Ok(None);
         };
-        let words = format_args!("worth {}, {wanted} wanted", entry.worth);
+        let words = format_args!("worth {}, expected {wanted}", entry.worth);
         who.say(alloc, &self.source, WORTH, words)
     }
 
@@ -125,7 +125,7 @@ impl<'a> Unlawful<'a> {
             )?;
         }
         let words = format_args!(
-            "logs worth {}, these worth {wanted} wanted:{logs}",
+            "logs worth {}, expected these, worth {wanted}:{logs}",
             entry.worth
         );
         who.say(alloc, &self.source, LOGS, words)
@@ -147,8 +147,8 @@ impl<'a> Unlawful<'a> {
     }
 }
 
-/// Why a journal isn't lawful, in lines of text, given its fault. For a cut that others outvalue the best one is shown.
-/// None where that isn't its fault. Refused as `Memory` alone.
+/// Returns why a journal isn't lawful, in lines of text, given its fault. For an outvalued cut it shows the best one.
+/// None if that isn't its fault. Refused as `Memory` alone.
 pub fn replay_reason(alloc: Global, unlawful: &Unlawful<'_>, fault: &ReplayFault) -> Said {
     if let ReplayFault::Outvalued { at } = fault {
         return unlawful.outvalued(alloc, *at);

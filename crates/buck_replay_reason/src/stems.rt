@@ -10,7 +10,7 @@ pub(crate) struct Difference<'a> {
     pub(crate) wanted: &'a Stem,
 }
 
-/// The first place, counted from 0, where two lists differ, and what stands there in both.
+/// The first place, counted from 0, where two lists differ, and the numbers there in both.
 fn first_apart<T: PartialEq + Copy>(found: &[T], wanted: &[T]) -> Option<(usize, T, T)> {
     for (place, (one, other)) in found.iter().zip(wanted).enumerate() {
         if *one != *other {
@@ -27,25 +27,25 @@ impl Difference<'_> {
         let wanted = self.wanted.samples();
         if let Some((place, one, other)) = first_apart(found, wanted) {
             let place = place.saturating_add(1);
-            return write!(f, "diameters: {one} at place {place}, {other} wanted");
+            return write!(f, "diameters: {one} at place {place}, expected {other}");
         }
         if found.len() != wanted.len() {
             let numbers = Several(found.len(), "number");
-            return write!(f, "diameters: {numbers}, {} wanted", wanted.len());
+            return write!(f, "diameters: {numbers}, expected {}", wanted.len());
         }
         let found = self.found.zones();
         let wanted = self.wanted.zones();
         let Some((place, one, other)) = first_apart(found, wanted) else {
             let numbers = Several(found.len().saturating_mul(2), "number");
             let all = wanted.len().saturating_mul(2);
-            return write!(f, "zones: {numbers}, {all} wanted");
+            return write!(f, "zones: {numbers}, expected {all}");
         };
         let place = place.saturating_mul(2).saturating_add(1);
         if one.0 != other.0 {
-            return write!(f, "zones: {} at place {place}, {} wanted", one.0, other.0);
+            return write!(f, "zones: {} at place {place}, expected {}", one.0, other.0);
         }
         let place = place.saturating_add(1);
-        write!(f, "zones: {} at place {place}, {} wanted", one.1, other.1)
+        write!(f, "zones: {} at place {place}, expected {}", one.1, other.1)
     }
 }
 
@@ -54,12 +54,12 @@ impl fmt::Display for Difference<'_> {
         let found = self.found.number();
         let wanted = self.wanted.number();
         if found != wanted {
-            return write!(f, "stem {found}, {wanted} wanted");
+            return write!(f, "stem {found}, expected {wanted}");
         }
         let found = self.found.species();
         let wanted = self.wanted.species();
         if found != wanted {
-            return write!(f, "species {found}, {wanted} wanted");
+            return write!(f, "species {found}, expected {wanted}");
         }
         self.write_lists(f)
     }

@@ -5,7 +5,7 @@ use buck_book::{TargetsFault, check_targets};
 use buck_reason::{Quoted, Several};
 use std::fmt;
 
-/// What is wrong with targets, where something is, in words.
+/// The fault of targets, if there is one, in words.
 #[derive(Clone, Copy)]
 pub struct WrongTargets<'a> {
     pub instruction: &'a Instruction,
@@ -40,7 +40,7 @@ impl fmt::Display for WrongTargets<'_> {
                 let classes = self.instruction.classes();
                 write!(
                     f,
-                    "targets (982 2): {}, {classes} wanted, one for each class",
+                    "targets (982 2): {}, expected {classes}, one for each class",
                     Several(self.targets.len(), "number")
                 )
             }
@@ -48,7 +48,7 @@ impl fmt::Display for WrongTargets<'_> {
                 let target = self.targets.get(at).copied().unwrap_or(0);
                 write!(
                     f,
-                    "targets (982 2): {target} at place {}, {} to {} wanted",
+                    "targets (982 2): {target} at place {}, expected {} to {}",
                     at.saturating_add(1),
                     TARGETS.low,
                     TARGETS.high
@@ -62,7 +62,7 @@ impl fmt::Display for WrongTargets<'_> {
                 let most = MOST_TARGETS_TOGETHER;
                 write!(
                     f,
-                    "targets (982 2) of assortment {assortment} {name}: {sum} together, at most {most} wanted"
+                    "targets (982 2) of assortment {assortment} {name}: {sum} together, expected at most {most}"
                 )
             }
         }

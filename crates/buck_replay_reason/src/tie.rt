@@ -6,14 +6,14 @@ use buck_reason::{Here, Said, Several, Shown, Source};
 use buck_stem::read_stm;
 use std::alloc::Global;
 
-/// A journal that was held against stem files, where the cuts of a harvester differ from its file.
+/// A journal that was compared with stem files, if the cuts of a harvester differ from its file.
 #[derive(Clone, Copy)]
 pub struct Tied<'a> {
     pub source: Source<'a>,
     pub journal: &'a Journal,
     /// Number of the harvester, from 1.
     pub harvester: u32,
-    /// Its file, where it has one.
+    /// Its file, if it has one.
     pub file: Option<Source<'a>>,
     /// Number of stem files.
     pub files: usize,
@@ -57,7 +57,7 @@ impl<'a> Tied<'a> {
     }
 
     /// Says how the harvester's cut at a place, counted from 1, differs from the stem that stands there in its file.
-    /// None where nothing is so. Refused as `Memory` alone.
+    /// None if it doesn't. Refused as `Memory` alone.
     pub fn other(&self, alloc: Global, place: usize) -> Said {
         let (Some(who), Some(file)) = (self.cut(place), self.file) else {
             return Ok(None);
@@ -81,7 +81,7 @@ impl<'a> Tied<'a> {
         )
     }
 
-    /// Says that the stem at a place of the harvester's file, counted from 1, wasn't cut. None where nothing is so.
+    /// Says that the stem at a place of the harvester's file, counted from 1, wasn't cut. None if it was.
     /// Refused as `Memory` alone.
     pub fn uncut(&self, alloc: Global, place: usize) -> Said {
         let Some(file) = self.file else {
@@ -101,12 +101,12 @@ impl<'a> Tied<'a> {
         stem_of(&file, place).say(
             alloc,
             format_args!(
-                "stem {number} (place {place}): {cuts} of harvester {harvester} in {name}, {all} wanted"
+                "stem {number} (place {place}): {cuts} of harvester {harvester} in {name}, expected {all}"
             ),
         )
     }
 
-    /// Says that the harvester's cut at a place, counted from 1, is one too many. None where nothing is so. Refused as
+    /// Says that the harvester's cut at a place, counted from 1, is one too many. None if it isn't. Refused as
     /// `Memory` alone.
     pub fn surplus(&self, alloc: Global, place: usize) -> Said {
         let Some(who) = self.cut(place) else {
@@ -120,7 +120,7 @@ impl<'a> Tied<'a> {
                 alloc,
                 &self.source,
                 0,
-                format_args!("no cut of harvester {harvester} wanted, there {are} {files}"),
+                format_args!("expected no cut of harvester {harvester}, there {are} {files}"),
             );
         };
         let stems = file.stems();
@@ -130,7 +130,7 @@ impl<'a> Tied<'a> {
             &self.source,
             0,
             format_args!(
-                "cut {place} of its harvester, {stems} wanted, as many as stems in {name}"
+                "cut {place} of its harvester, expected {stems}, the number of stems in {name}"
             ),
         )
     }

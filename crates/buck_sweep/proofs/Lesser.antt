@@ -1,54 +1,47 @@
 -- The least of some degrees, and of one more.
-use Rattle.std.proofs.Common.{◌≡◌, ℕ, ◌+◌, ◌≤◌, ◌<◌, length, take, get_or, List, [], ◌∷◌, ◌++◌, Option, Some, None, IfSome, Bool, true, false, cond, nat_le, refl, sym, ap, subst, ◌∙◌, arith}
+use Rattle.buck_sweep.proofs.Words.{◌≡◌, ℕ, ◌+◌, ◌≤◌, ◌<◌, inl, inr, length, take, get_or, List, [], ◌∷◌, ◌++◌, Option, Some, None, IfSome, true, false, nat_le, refl, sym, ap, subst, ◌∙◌, arith, IfSome_then, map-append, take_more, Degrees}
+use Rattle.buck_sweep.proofs.Words.{IsLeast, wholes_of, lesser}
+use Rattle.std.proofs.lemmas.Bool.{cases_lt}
 use Rattle.std.specs.List.{AllByRecursion, Contains}
-use Rattle.std.proofs.lemmas.List.{map-append, take_more}
 use Rattle.std.proofs.lemmas.List.Elements.{Contains-append_left, Contains-append_right}
 use Rattle.std.proofs.lemmas.Bool.Decides.{nat_tests}
-use Rattle.buck_figures.specs.declared.degrees.Degrees.{Degrees}
-use Rattle.buck_sweep.specs.Table.{IsLeast, wholes_of}
-use Rattle.buck_sweep.specs.inner.Lines.{lesser}
 
-not_below_none : (m : ℕ) (ds : List (Option ℕ)) → AllByRecursion (λ d. d ≡ None) ds
-    → AllByRecursion (λ d. IfSome d (λ n. m ≤ n)) ds
-not_below_none m [] none = tt
-not_below_none m (d ∷ ds) (is, more) =
-    (subst (λ (o : Option ℕ). IfSome o (λ n. m ≤ n)) (sym is) tt, not_below_none m ds more)
-
-lower : (a m : ℕ) (ds : List (Option ℕ)) → m ≤ a → AllByRecursion (λ d. IfSome d (λ n. a ≤ n)) ds
-    → AllByRecursion (λ d. IfSome d (λ n. m ≤ n)) ds
-lower a m [] le all = tt
-lower a m (None ∷ ds) le (is, more) = (tt, lower a m ds le more)
-lower a m (Some n ∷ ds) le (is, more) = (omega (arith, le, is), lower a m ds le more)
-
--- one more of which it holds
-one_more : (P : Option ℕ → Type 0) (ds : List (Option ℕ)) (d : Option ℕ) → AllByRecursion P ds → P d
-    → AllByRecursion P (ds ++ d ∷ [])
-one_more P [] d all is = (is, tt)
-one_more P (x ∷ ds) d (first, more) is = (first, one_more P ds d more is)
+-- one more, of which it holds
+one_more : (P Q : Option ℕ → Type 0) (ds : List (Option ℕ)) (d : Option ℕ) → ((x : Option ℕ) → P x → Q x)
+    → AllByRecursion P ds → Q d → AllByRecursion Q (ds ++ d ∷ [])
+one_more P Q [] d less all is = (is, tt)
+one_more P Q (x ∷ ds) d less (first, more) is = (less x first, one_more P Q ds d less more is)
 
 last : (ds : List (Option ℕ)) (d : Option ℕ) → Contains (ds ++ d ∷ []) d
 last ds d = Contains-append_right ds (d ∷ []) d (0, omega arith, refl)
 
+abbrev AtLeast : ℕ → Option ℕ → Type 0
+AtLeast m d = IfSome d (λ n. m ≤ n)
+
 pub least_more : (ds : List (Option ℕ)) (one other : Option ℕ) → IsLeast ds one
     → IsLeast (ds ++ other ∷ []) (lesser one other)
-least_more ds None None is = one_more (λ d. d ≡ None) ds None is refl
-least_more ds None (Some m) is =
-    (last ds (Some m), one_more (λ d. IfSome d (λ n. m ≤ n)) ds (Some m) (not_below_none m ds is) (omega arith))
+least_more ds None None is = one_more (λ d. d ≡ None) (λ d. d ≡ None) ds None (λ x none. none) is refl
+least_more ds None (Some m) is = (
+  last ds (Some m),
+  one_more (λ d. d ≡ None) (AtLeast m) ds (Some m) (λ x none. subst (AtLeast m) (sym none) tt) is (omega arith),
+)
 least_more ds (Some a) None (there, all) =
-    (Contains-append_left ds (None ∷ []) (Some a) there, one_more (λ d. IfSome d (λ n. a ≤ n)) ds None all tt)
-least_more ds (Some a) (Some b) (there, all) =
-    (elim (nat_le a b) as (λ (t : Bool). nat_le a b ≡ t → IsLeast (ds ++ Some b ∷ []) (cond t (Some a) (Some b))) [
-      | true ↦ λ e. (
-        Contains-append_left ds (Some b ∷ []) (Some a) there,
-        one_more (λ d. IfSome d (λ n. a ≤ n)) ds (Some b) all (grind (arith, nat_tests, e)),
+    (Contains-append_left ds (None ∷ []) (Some a) there, one_more (AtLeast a) (AtLeast a) ds None (λ x low. low) all tt)
+least_more ds (Some a) (Some b) (there, all) = elim (cases_lt b a) [
+  | inl lt ↦
+      let no : nat_le a b ≡ false = grind (arith, nat_tests, lt) in
+      rw no (
+        last ds (Some b),
+        one_more (AtLeast a) (AtLeast b) ds (Some b) (λ x low. IfSome_then x low (λ n le. omega (arith, le, lt)))
+            all (omega arith),
       )
-      | false ↦
-          λ e. (
-            last ds (Some b),
-            one_more (λ d. IfSome d (λ n. b ≤ n)) ds (Some b) (lower a b ds (grind (arith, nat_tests, e)) all)
-                (omega arith),
-          )
-    ]) refl
+  | inr le ↦
+      let yes : nat_le a b ≡ true = grind (arith, nat_tests, le) in
+      rw yes (
+        Contains-append_left ds (Some b ∷ []) (Some a) there,
+        one_more (AtLeast a) (AtLeast a) ds (Some b) (λ x low. low) all le,
+      )
+]
 
 -- the next one is taken
 pub least_taken : (ds : List Degrees) (k : ℕ) (d : Degrees) (least r : Option ℕ) → k < length ds
@@ -58,6 +51,4 @@ least_taken ds k d least r lt is so_far =
     let one = (get_or ds k d).whole in
     let next : wholes_of (take (k + 1) ds) ≡ wholes_of (take k ds) ++ one ∷ [] =
     ap wholes_of (take_more ds k d lt) ∙ map-append (λ x. x.whole) (take k ds) (get_or ds k d ∷ []) in
-    subst (λ (o : Option ℕ). IsLeast (wholes_of (take (k + 1) ds)) o) (sym is)
-    (subst (λ (xs : List (Option ℕ)). IsLeast xs (lesser least one)) (sym next)
-    (least_more (wholes_of (take k ds)) least one so_far))
+    rw (is, next) (least_more (wholes_of (take k ds)) least one so_far)

@@ -1,3 +1,4 @@
+pub mod Words
 pub mod Lesser
 pub mod Tables
 pub mod Histories

@@ -1,16 +1,12 @@
 -- Tables over files.
-use Rattle.std.proofs.Common.{◌≡◌, ◌≢◌, ℕ, ◌<◌, ◌≤◌, inr, List, length, All, Option, Result, Ok, Err, refl, sym, ap, subst, ◌∙◌, arith}
+use Rattle.buck_sweep.proofs.Words.{◌≡◌, ◌≢◌, ℕ, inr, List, length, Option, Result, Ok, Err, refl, ap, subst, ◌∙◌, arith, InstructionParts, Combination, AnswersSweep, IsLineOver, IsSweepRun, IsTable}
+use Rattle.buck_sweep.proofs.Words.{IsRunLine, AnswersTable, IsTableOf}
 use Rattle.std.specs.Result.{IsErrAnd}
-use Rattle.std.specs.declared.sync.Arc.{Arc}
-use Rattle.std.specs.declared.vec.Vec.{Vec}
-use Rattle.std.specs.declared.alloc.Global.{Global}
 use Rattle.std.specs.Io.KnownBytes.{Appends, Keeps}
 use Rattle.std.proofs.KnownBytes.{Keeps-refl}
 use Rattle.buck_apt.specs.Apt.{apt_of}
-use Rattle.buck_apt.specs.Instruction.{InstructionParts}
-use Rattle.buck_stem.specs.declared.stem.Stem.{Stem}
-use Rattle.buck_book.specs.Posting.{harvester_of}
 use Rattle.buck_book.specs.Replies.{stems_at}
+use Rattle.buck_turn.specs.Turn.{StemList}
 use Rattle.buck_engine.specs.declared.fault.EngineFault.{EngineFault}
 use Rattle.buck_engine.specs.declared.fault.EngineFault.TheVariants.{Full, Seats, Write}
 use Rattle.buck_engine.specs.run.Reading.{Says}
@@ -19,15 +15,11 @@ use Rattle.buck_engine.specs.text.Written.{AppendsSome, WritesText}
 use Rattle.buck_engine.proofs.Lists.{accepted, too_many}
 use Rattle.buck_engine.proofs.Numbers.{says_with}
 use Rattle.buck_engine.proofs.Runs.{fleet_fault, no_answer}
-use Rattle.buck_sweep.specs.declared.combination.Combination.{Combination}
-use Rattle.buck_sweep.specs.Sweep.{AnswersSweep, IsLineOver, IsSweepRun, IsTable}
-use Rattle.buck_sweep.specs.Runs.{IsRunLine}
-use Rattle.buck_sweep.specs.inner.Lines.{AnswersTable, IsTableOf}
 use Rattle.buck_sweep.proofs.Tables.{lines_mapped}
 
 -- the line of a run over the lists that files have is a line over the files
 over : (apt : Option (List ℕ)) (stms : List (Option (List ℕ))) (i : InstructionParts)
-    (lists : List (Vec (Arc Stem Global) Global)) (c : Combination) (line : List ℕ)
+    (lists : List StemList) (c : Combination) (line : List ℕ)
     → Says apt_of apt (Ok i) → length lists ≡ length stms → AreListsOf (length stms) stms lists
     → IsRunLine i lists c line → IsLineOver apt stms c line
 over apt stms i lists c line says long made run =
@@ -44,24 +36,21 @@ over apt stms i lists c line says long made run =
           stm_says = made k lt;
           are_cut = cut.stems k (omega (arith, lt, long));
         };
-        nobody_else =
-            subst (λ (n : ℕ). All (λ x. (0 < harvester_of x) × (harvester_of x ≤ n)) run.history.postings)
-            long cut.nobody_else;
+        nobody_else = (rw long at cut.nobody_else);
       };
       in_turn = cut.in_turn;
       by_rule = run.has_cut.by_rule;
       is_line = run.is_line;
     }
 
--- nothing is written where there is no table
+-- nothing is written if there is no table
 pub not_swept : (cs : List Combination) (apt : Option (List ℕ)) (stms : List (Option (List ℕ))) (old : Option (List ℕ))
     (fault : EngineFault) (r : Result (Unit {0}) EngineFault)
     → (AreNoSeats (length stms) → fault ≡ Seats) → IsErrAnd r (λ x. x ≡ fault) → IsFleetFault apt stms fault
     → (fault ≢ Full) → IsSweepRun cs apt stms old old r
 not_swept cs apt stms old fault (Ok u) seats h a full = absurd h
 not_swept cs apt stms old fault (Err x) seats h a full =
-    subst (λ (f : EngineFault). IsSweepRun cs apt stms old old (Err f)) (sym h)
-    (record {
+    rw h (record {
       seats = λ none. ap (λ (f : EngineFault). Err f) (seats none);
       run = no_answer (AnswersSweep cs apt stms) (Appends old old) (AppendsSome old old) (Keeps old old) fault
           (fleet_fault apt stms fault a) (a, λ is. absurd (full is)) (Keeps-refl old);
@@ -69,7 +58,7 @@ not_swept cs apt stms old fault (Err x) seats h a full =
 
 -- the table over lists that files have is a table over the files
 pub swept : (cs : List Combination) (apt : Option (List ℕ)) (stms : List (Option (List ℕ))) (n : ℕ)
-    (i : InstructionParts) (lists : List (Vec (Arc Stem Global) Global)) (old new : Option (List ℕ))
+    (i : InstructionParts) (lists : List StemList) (old new : Option (List ℕ))
     (r : Result (Unit {0}) EngineFault)
     → (AreNoSeats (length stms) → ⊥) → n ≡ length stms → Says apt_of apt (Ok i) → length lists ≡ n
     → AreListsOf n stms lists → WritesText (AnswersTable i lists cs) old new r → IsSweepRun cs apt stms old new r

@@ -1,9 +1,6 @@
 -- The lines of a table, one after the other.
-use Rattle.std.proofs.Common.{◌≡◌, ℕ, ◌+◌, ◌<◌, ◌*◌, List, [], ◌∷◌, ◌++◌, length, take, drop, get_or, refl, sym, ap, subst, ◌∙◌, append_assoc, append-nil, arith}
+use Rattle.buck_sweep.proofs.Words.{◌≡◌, ℕ, ◌+◌, ◌<◌, ◌*◌, List, [], ◌∷◌, ◌++◌, length, take, drop, get_or, refl, sym, ap, subst, ◌∙◌, append_assoc, append-nil, arith, take_more, Combination, AreLines}
 use Rattle.std.proofs.Math.Seq.{take-add}
-use Rattle.std.proofs.lemmas.List.{take_more}
-use Rattle.buck_sweep.specs.declared.combination.Combination.{Combination}
-use Rattle.buck_sweep.specs.Sweep.{AreLines}
 
 -- what holds of each line
 pub lines_mapped : (P Q : Combination → List ℕ → Type 0) → ((c : Combination) (line : List ℕ) → P c line → Q c line)
@@ -30,10 +27,8 @@ pub lines_taken : (IsOne : Combination → List ℕ → Type 0) (cs : List Combi
     (text line new : List ℕ) → k < length cs → c ≡ get_or cs k c
     → AreLines IsOne (take k cs) text → IsOne c line → new ≡ text ++ line → AreLines IsOne (take (k + 1) cs) new
 lines_taken IsOne cs k c text line new lt is so_far one e =
-    subst (λ (t : List ℕ). AreLines IsOne (take (k + 1) cs) t) (sym e)
-    (subst (λ (ds : List Combination). AreLines IsOne ds (text ++ line))
-    (sym (take_more cs k c lt ∙ ap (λ d. take k cs ++ d ∷ []) (sym is)))
-    (lines_both IsOne (take k cs) (c ∷ []) text line so_far (line, [], sym (append-nil line), one, refl)))
+    rw (e, take_more cs k c lt ∙ ap (λ d. take k cs ++ d ∷ []) (sym is))
+    (lines_both IsOne (take k cs) (c ∷ []) text line so_far (line, [], sym (append-nil line), one, refl))
 
 -- of the next run of so many neighbours
 pub part_put : (IsOne : Combination → List ℕ → Type 0) (cs part : List Combination) (size k : ℕ)
@@ -45,6 +40,4 @@ part_put IsOne cs part size k text more new so_far is next e =
     let on : take ((k + 1) * size) cs ≡ take (k * size) cs ++ part =
     ap (λ (n : ℕ). take n cs) (omega arith) ∙ take-add (k * size) size cs
     ∙ ap (λ (l : List Combination). take (k * size) cs ++ l) (sym is) in
-    subst (λ (t : List ℕ). AreLines IsOne (take ((k + 1) * size) cs) t) (sym e)
-    (subst (λ (l : List Combination). AreLines IsOne l (text ++ more)) (sym on)
-    (lines_both IsOne (take (k * size) cs) part text more so_far next))
+    rw (e, on) (lines_both IsOne (take (k * size) cs) part text more so_far next)

@@ -18,7 +18,7 @@ with_periods periods limits rule = flat_map (with_limits limits rule) periods
 abbrev pub combinations_of : List NamedRule → List (Option ℕ) → List (Option ℕ) → List Combination
 combinations_of rules periods limits = flat_map (with_periods periods limits) rules
 
--- what is told of periods and limits may stand in an instruction
+-- the given periods and limits may stand in an instruction
 abbrev pub AreNumbers : List (Option ℕ) → List (Option ℕ) → Type 0
 AreNumbers periods limits =
     All (λ p. IfSome p (λ n. IsWithin 1 1000 n)) periods × All (λ l. IfSome l (λ n. n ≤ 1000)) limits

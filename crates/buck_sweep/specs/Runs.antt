@@ -1,14 +1,10 @@
 -- The run of a combination: lists that are cut in turn, and its line.
 use Rattle.std.specs.Prelude.{◌≡◌, ◌<◌, ◌≤◌, ℕ, List, length}
-use Rattle.std.specs.declared.sync.Arc.{Arc}
-use Rattle.std.specs.declared.vec.Vec.{Vec}
-use Rattle.std.specs.declared.alloc.Global.{Global}
 use Rattle.buck_apt.specs.Instruction.{InstructionParts}
 use Rattle.buck_apt.specs.Settings.{with_settings}
-use Rattle.buck_stem.specs.declared.stem.Stem.{Stem}
 use Rattle.buck_book.specs.History.{HistoryParts, IsLawful}
 use Rattle.buck_book.specs.declared.posting.TheConstants.{MOST_POSTINGS}
-use Rattle.buck_turn.specs.Turn.{HasCutInTurn, stems_in_all}
+use Rattle.buck_turn.specs.Turn.{HasCutInTurn, StemList, stems_in_all}
 use Rattle.buck_rule.specs.declared.named.NamedRule.{NamedRule}
 use Rattle.buck_engine.specs.declared.fault.EngineFault.{EngineFault}
 use Rattle.buck_engine.specs.declared.fault.EngineFault.TheVariants.{Full}
@@ -19,7 +15,7 @@ use Rattle.buck_sweep.specs.Table.{IsLine}
 
 -- a lawful history of at most 1,000,000 postings, each cutting the first of the best ones, in which lists were cut in
 -- turn by a rule
-pub record HasCut (rule : NamedRule) (lists : List (Vec (Arc Stem Global) Global)) (h : HistoryParts) : Type 0 where
+pub record HasCut (rule : NamedRule) (lists : List StemList) (h : HistoryParts) : Type 0 where
   pub lawful : IsLawful h
   pub few : length h.postings ≤ MOST_POSTINGS
   pub firsts : AreFirsts h
@@ -27,7 +23,7 @@ pub record HasCut (rule : NamedRule) (lists : List (Vec (Arc Stem Global) Global
   pub by_rule : FollowsRule rule h
 
 -- the line of a combination, whose run cut these lists in turn by this instruction, with its numbers put in
-pub record IsRunLine (i : InstructionParts) (lists : List (Vec (Arc Stem Global) Global)) (c : Combination)
+pub record IsRunLine (i : InstructionParts) (lists : List StemList) (c : Combination)
     (line : List ℕ) : Type 0 where
   pub history : HistoryParts
   pub instruction : history.instruction ≡ with_settings c.settings i
@@ -35,5 +31,5 @@ pub record IsRunLine (i : InstructionParts) (lists : List (Vec (Arc Stem Global)
   pub is_line : IsLine c.rule history line
 
 -- why lists aren't cut: memory ran out, or they have too many stems
-abbrev pub IsStop : List (Vec (Arc Stem Global) Global) → EngineFault → Type 0
+abbrev pub IsStop : List StemList → EngineFault → Type 0
 IsStop lists fault = IsCuttingFault fault × (fault ≡ Full → MOST_POSTINGS < stems_in_all lists)

@@ -7,7 +7,7 @@ use Rattle.buck_sweep.specs.declared.combination.Combination.{Combination}
 use Rattle.buck_sweep.specs.declared.serving.SweepTask.{SweepTask}
 use Rattle.buck_sweep.specs.Sweep.{IsSweepRun}
 
--- a run over the files that were opened; where one can't be, nothing is written
+-- a run over the files that were opened; if one can't be, nothing is written
 abbrev pub RunsInputs : {F : Type 0} → (F → Option (List ℕ)) → List Combination → Result (F × List F) EngineFault
     → Option (List ℕ) → Option (List ℕ) → Result (Unit {0}) EngineFault → Type 0
 RunsInputs held cs (Ok files) old new outcome = IsSweepRun cs (held files.0) (map held files.1) old new outcome

@@ -15,7 +15,7 @@ use Rattle.buck_words.specs.Words.{half_up}
 use Rattle.buck_rule.specs.declared.named.NamedRule.{NamedRule}
 use Rattle.buck_rule.specs.Named.{rule_name}
 
--- a comma, and then a number, where there is one
+-- a comma, and then a number, if there is one
 abbrev pub cell : Option ℕ → List ℕ
 cell None = codes ","
 cell (Some n) = codes "," ++ decimal n
@@ -60,7 +60,7 @@ IsLeast degrees None = AllByRecursion (λ d. d ≡ None) degrees
 IsLeast degrees (Some least) =
     Contains degrees (Some least) × AllByRecursion (λ d. IfSome d (λ n. least ≤ n)) degrees
 
--- what steering cost of what the best cuttings at base prices are worth, in ten-thousandths; 0 where that is nothing
+-- what steering cost of what the best cuttings at base prices are worth, in ten-thousandths; 0 if that is nothing
 abbrev pub rate_of : ℕ → ℕ → ℕ
 rate_of best at_base = cond (best == 0) 0 (half_up (10000 * (best - at_base)) best)
 

@@ -69,7 +69,7 @@ fn cut_by_name(
 }
 
 /// The line of a combination, whose run cuts the lists in turn; see [`run_sweep`](crate::run_sweep). Refused as `Full`
-/// where there are more stems than 1,000,000, and as `Memory` where a growth was refused.
+/// if there are more stems than 1,000,000, and as `Memory` if an allocation failed.
 pub fn run_line(
     alloc: Global,
     input: &Input,

@@ -3,7 +3,6 @@ ghost use Rattle.std.specs.Prelude.{◌≡◌, ◌++◌, ◌≤◌, IfOk, OnOk, 
 ghost use Rattle.buck_apt.specs.Instruction.{classes};
 ghost use Rattle.buck_book.specs.History.{IsLawful};
 ghost use Rattle.buck_journal.specs.judging.Replay.{history_of};
-ghost use Rattle.buck_figures.specs.Figures.{base_sheet};
 ghost use Rattle.buck_sweep.specs.Table.{IsLeast, IsLine, apart_of, cells, rate_of, volumes_of, wholes_of};
 ghost use Rattle.buck_sweep.specs.inner.Lines.{AreAllDegrees, lesser, line_by, versions_of};
 ghost use Rattle.buck_book.specs.declared.posting.TheConstants.{MOST_POSTINGS};
@@ -49,7 +48,7 @@ fn degrees_of(
     Ok(degrees)
 }
 
-/// The lesser of two degrees, where there are both.
+/// The lesser of two degrees, or the only one.
 fn lesser(one: Option<u128>, other: Option<u128>) -> Option<u128>
     ensures { result ≡ lesser one other }
 {
@@ -71,7 +70,7 @@ fn least_of(degrees: &[Degrees]) -> Option<u128>
     least
 }
 
-/// What steering cost of what the best cuttings at base prices are worth, in ten-thousandths, to the nearest; 0 where
+/// What steering cost of what the best cuttings at base prices are worth, in ten-thousandths, to the nearest; 0 if
 /// they are worth nothing.
 fn rate_of(sums: &Sums) -> u128
     ensures { result ≡ rate_of sums.now.best sums.now.at_base }
@@ -159,14 +158,6 @@ fn put_line(
     Ok(())
 }
 
-/// A planner at base prices.
-fn base_planner(alloc: Global, instruction: &Arc<Instruction>) -> Result<Planner, Memory>
-    ensures { IfOk result (λ planner. planner ≡ base_sheet instruction.now.value) }
-{
-    let base = Sheet::base(alloc, instruction.clone()?)?;
-    Ok(Planner::make(alloc, Arc::new(alloc, base)?)?)
-}
-
 /// The line of a run by a rule of this name, from its journal.
 pub(crate) fn line_of(
     alloc: Global,
@@ -178,7 +169,9 @@ pub(crate) fn line_of(
     requires lawful { IsLawful (history_of instruction.now.value journal.now) }
     ensures { IfOk result (λ line. IsLine rule (history_of instruction.now.value journal.now) line.items) }
 {
-    let mut planner = base_planner(alloc, instruction)?;
+    let base = Sheet::base(alloc, instruction.clone()?)?;
+    let mut planner = Planner::make(alloc, Arc::new(alloc, base)?)?;
+    // The figures that a page shows, from the journal: sums made during the run would be a second definition.
     let figures = figures_of(alloc, &mut planner, instruction, from_ref(journal))?;
     let targets = figures.targets.as_slice();
     let degrees = degrees_of(

@@ -56,7 +56,7 @@ fn write_table<W: io::Write>(
 /// order. See "The table of a sweep" in docs/FORMATS.md. Nothing is written before the whole table is there.
 ///
 /// Each run is that of [`run_in_turn`](buck_engine::run_in_turn) by the combination's rule, with its numbers in the
-/// place of the instruction's own; so is each fault, and when it comes. `Write` where the writer fails, which leaves a
+/// place of the instruction's own; so is each fault, and when it comes. `Write` if the writer fails, which leaves a
 /// prefix of the table.
 pub fn run_sweep<R: io::Read, W: io::Write>(
     alloc: Global,
@@ -67,13 +67,13 @@ pub fn run_sweep<R: io::Read, W: io::Write>(
 ) -> Result<(), EngineFault>
     // What is written is the table of the combinations, of the instruction and the stems that the files have, each line
     // that of a run by its rule; a fault is that of the first file that has one, or comes after all of them, and
-    // nothing is written; a write fault leaves a prefix of the table. Where there are not 1 to 64 stem files, that is
-    // the fault; it is `Full` only where there are more stems than 1,000,000.
+    // nothing is written; a write fault leaves a prefix of the table. If there are not 1 to 64 stem files, that is
+    // the fault; it is `Full` only if there are more stems than 1,000,000.
     ensures run { IsSweepRun combinations.now (R.remaining apt.old) (map R.remaining stms.old)
         (W.contents out.old) (W.contents out.new) result }
-    // Where a file has a fault, nothing was read of those after it.
+    // If a file has a fault, nothing was read of those after it.
     ensures order { IfErr result (IfStopped (λ last. drop last stms.new ≡ drop last stms.old)) }
-    // Where there are not 1 to 64 stem files, nothing was read of the instruction either.
+    // If there are not 1 to 64 stem files, nothing was read of the instruction either.
     ensures unread { IfErr result (λ fault. fault ≡ Seats → apt.new ≡ apt.old) }
     // Only a failed write touches the output.
     ensures untouched { IfErr result (λ fault. fault ≢ Write → out.new ≡ out.old) }
@@ -83,9 +83,9 @@ pub fn run_sweep<R: io::Read, W: io::Write>(
     write_table(alloc, &input, combinations, lines, out)
 }
 
-/// [`run_sweep`], for which the runs are done in several threads at once: in as many as are told, from 1 to 64, or,
-/// where nothing is said, in as many as the machine has. What is written, and each fault, are those of [`run_sweep`],
-/// whatever the number; where memory runs out in one of the runs, it is `Memory`, and nothing is written.
+/// [`run_sweep`] with the runs done in several threads at once: in the given number, from 1 to 64, or, if none is
+/// given, in as many as the machine has. What is written, and each fault, are those of [`run_sweep`], whatever the
+/// number; if memory runs out in one of the runs, it is `Memory`, and nothing is written.
 pub fn run_sweep_in_parts<T: Threads + Sync, R: io::Read, W: io::Write>(
     rt: &T,
     alloc: Global,

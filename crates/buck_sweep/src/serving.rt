@@ -9,7 +9,7 @@ use std::alloc::Global;
 use std::io;
 use std::thread::Threads;
 
-/// What the words of the command line ask of a table.
+/// The arguments of a sweep.
 #[derive(Drop)]
 pub struct SweepTask<'a> {
     /// The runs, in the order of their lines.
@@ -18,7 +18,7 @@ pub struct SweepTask<'a> {
     pub apt: &'a str,
     /// The names of the stem files, one for each harvester.
     pub stms: Vec<&'a str>,
-    /// How many runs may be done at once, in threads of their own; where nothing is said, as many as the machine has.
+    /// How many runs may be done at once, in threads of their own; if nothing is said, as many as the machine has.
     pub threads: Option<u8>,
 }
 

@@ -1,5 +1,5 @@
 //! The lines of a table: the names of its columns, and then one for each run.
-ghost use Rattle.std.specs.Prelude.{◌≡◌, ◌++◌, OnOk};
+ghost use Rattle.std.specs.Prelude.{◌≡◌, ◌≤◌, ◌++◌, length, OnOk};
 ghost use Rattle.buck_sweep.specs.Table.{cell, cells, column, degree_heads, head_line, pair_heads};
 
 use buck_apt::{Assortment, Instruction};
@@ -8,7 +8,7 @@ use buck_words::put_quoted;
 use itoa::Buffer;
 use std::alloc::Global;
 
-/// Puts a cell: a comma, and then the number, where there is one.
+/// Puts a cell: a comma, and then the number, if there is one.
 pub(crate) fn put_cell(out: &mut Vec<u8>, number: Option<u128>) -> Result<(), Memory>
     ensures { OnOk result (out.new.items ≡ out.old.items ++ cell number) }
 {
@@ -54,11 +54,11 @@ fn put_name(
 fn put_degree_heads(
     alloc: Global,
     out: &mut Vec<u8>,
-    instruction: &Instruction,
+    assortments: &[Assortment],
 ) -> Result<(), Memory>
-    ensures { OnOk result (out.new.items ≡ out.old.items ++ degree_heads 0 instruction.now.assortments) }
+    requires { length assortments.now ≤ 16 }
+    ensures { OnOk result (out.new.items ≡ out.old.items ++ degree_heads 0 assortments.now) }
 {
-    let assortments = instruction.assortments();
     for at in 0..assortments.len() {
         put_name(alloc, out, b"degree_", at as u8, &assortments[at])?;
         out.push(b',')?;
@@ -66,29 +66,22 @@ fn put_degree_heads(
     Ok(())
 }
 
-/// What two columns say.
-#[derive(Clone, Copy)]
-struct Pair<'a> {
-    first: &'a [u8],
-    second: &'a [u8],
-}
-
-/// Puts the names of the columns that say these of each assortment.
+/// Puts the names of two columns that say these of each assortment.
 fn put_pair_heads(
     alloc: Global,
     out: &mut Vec<u8>,
-    pair: Pair<'_>,
-    instruction: &Instruction,
+    first: &[u8],
+    second: &[u8],
+    assortments: &[Assortment],
 ) -> Result<(), Memory>
-    ensures { OnOk result (out.new.items ≡ out.old.items
-        ++ pair_heads pair.entry.first.now pair.entry.second.now 0 instruction.now.assortments) }
+    requires { length assortments.now ≤ 16 }
+    ensures { OnOk result (out.new.items ≡ out.old.items ++ pair_heads first.now second.now 0 assortments.now) }
 {
-    let assortments = instruction.assortments();
     for at in 0..assortments.len() {
         out.push(b',')?;
-        put_name(alloc, out, pair.first, at as u8, &assortments[at])?;
+        put_name(alloc, out, first, at as u8, &assortments[at])?;
         out.push(b',')?;
-        put_name(alloc, out, pair.second, at as u8, &assortments[at])?;
+        put_name(alloc, out, second, at as u8, &assortments[at])?;
     }
     Ok(())
 }
@@ -97,21 +90,14 @@ fn put_pair_heads(
 pub fn put_head(alloc: Global, out: &mut Vec<u8>, instruction: &Instruction) -> Result<(), Memory>
     ensures { OnOk result (out.new.items ≡ out.old.items ++ head_line instruction.now) }
 {
+    let all = instruction.assortments();
     out.extend_from_slice(b"rule,period,limit,versions,")?;
-    put_degree_heads(alloc, out, instruction)?;
+    put_degree_heads(alloc, out, all)?;
     out.extend_from_slice(
         b"least_degree,base_worth_millionths,best_base_worth_millionths,cost_ten_thousandths,volume_cm3",
     )?;
-    let volumes = Pair {
-        first: b"volume_cm3_",
-        second: b"unsteered_volume_cm3_",
-    };
-    put_pair_heads(alloc, out, volumes, instruction)?;
-    let degrees = Pair {
-        first: b"diameter_degree_",
-        second: b"length_degree_",
-    };
-    put_pair_heads(alloc, out, degrees, instruction)?;
+    put_pair_heads(alloc, out, b"volume_cm3_", b"unsteered_volume_cm3_", all)?;
+    put_pair_heads(alloc, out, b"diameter_degree_", b"length_degree_", all)?;
     out.push(b'\n')?;
     Ok(())
 }

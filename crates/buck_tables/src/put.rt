@@ -15,7 +15,7 @@ pub(crate) fn put_name(out: &mut Vec<u8>, name: &[u8]) -> Result<(), Memory> {
     put_quoted(out, name)
 }
 
-/// A number, or nothing where there is none.
+/// A number, or nothing if there is none.
 #[derive(Drop)]
 pub(crate) struct Field(pub Option<u32>);
 

@@ -1,6 +1,6 @@
 //! Tables for a spreadsheet.
 //!
-//! Their first line names the columns. Fields are set apart by a comma, numbers are plain, a field is empty where there
+//! Their first line names the columns. Fields are set apart by a comma, numbers are plain, a field is empty if there
 //! is nothing, and a name stands in quotes.
 ghost use Rattle.buck_figures.specs.Shown.{IsShown};
 

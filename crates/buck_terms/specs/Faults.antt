@@ -39,7 +39,7 @@ terms_line (Run fault) = fault_line fault
 terms_line (Targets fault) = numbered_line (codes "targets") [] (targets_numbers fault)
 terms_line (Own fault) = numbered_line (codes "own") [] (own_numbers fault)
 
--- the exit status after a fault: 1 after a file that is refused, 3 where memory ran out in its place
+-- the exit status after a fault: 1 after a file that is refused, 3 if memory ran out in its place
 abbrev pub terms_status : TermsFault → ℕ
 terms_status (Run fault) = status_of fault
 terms_status (Targets fault) = status_or 1 (targets_numbers fault)

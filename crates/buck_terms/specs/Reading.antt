@@ -18,7 +18,7 @@ abbrev pub AnswersLast : {O F : Type 0} → (O → List ℕ → Option F → O �
 AnswersLast opens old new name number (Ok opened) = opens old name (Some opened.0) new × (opened.1 ≡ number)
 AnswersLast opens old new name number (Err fault) = opens old name None new × (fault ≡ Read number)
 
--- the same, where it is named
+-- the same, if it is named
 abbrev pub AnswersMore : {O F : Type 0} → (O → List ℕ → Option F → O → Type 0) → O → O → Option (List ℕ) → ℕ
     → Result (Option (F × ℕ)) EngineFault → Type 0
 AnswersMore opens old new None number (Ok None) = new ≡ old

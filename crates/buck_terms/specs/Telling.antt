@@ -1,4 +1,4 @@
--- How a whole run over files beside an instruction ends: what is told of it.
+-- How a whole run over files beside an instruction ends: what is reported of it.
 use Rattle.std.specs.Prelude.{ℕ, List, Option, Result, Ok, Err}
 use Rattle.std.specs.Io.KnownBytes.{Appends, Keeps}
 use Rattle.buck_engine.specs.declared.fault.EngineFault.TheVariants.{Write}
@@ -18,8 +18,8 @@ abbrev pub TellsTerms : Option (List ℕ) → Option (List ℕ) → Result (Unit
 TellsTerms old new (Ok _) = Keeps old new
 TellsTerms old new (Err fault) = AppendsFirst old new (terms_line fault)
 
--- how a run ended that is to write the text that it answers: the whole text is written, or some first bytes of it where
--- the writer failed, or nothing where the answer is a fault
+-- how a run ended that is to write the text that it answers: the whole text is written, or some first bytes of it if
+-- the writer failed, or nothing if the answer is a fault
 abbrev pub WritesTerms : (Result (List ℕ) TermsFault → Type 0) → Option (List ℕ) → Option (List ℕ)
     → Result (Unit {0}) TermsFault → Type 0
 WritesTerms Answers old new (Ok _) = (text : List ℕ) × Answers (Ok text) × Appends old new text

@@ -11,7 +11,7 @@ use buck_record::{FaultNumbers, Memory, Numbered};
 use std::alloc::{AllocError, AllocFailed};
 use thiserror::Error;
 
-/// What is wrong with a file of targets: the first refusal that applies, `Head`, else `Digits`, else the least number.
+/// Why a file of targets is refused: the first refusal that applies, `Head`, else `Digits`, else the least number.
 #[derive(Clone, Copy, Debug, PartialEq, Eq, Error)]
 pub enum TargetsFault {
     /// There isn't one list of targets for each assortment, with one number for each class.
@@ -30,7 +30,7 @@ pub enum TargetsFault {
     /// 4,294,967,296. It is the first in the file.
     #[error("word {place} of list {list} is not a number")]
     Digits { list: usize, place: usize },
-    /// A growth was refused. It may come in place of any answer.
+    /// An allocation failed. It may come in place of any answer.
     #[error("out of memory")]
     Memory,
 }
@@ -68,7 +68,7 @@ impl Numbered for TargetsFault {
     }
 }
 
-/// What is wrong with an owner's instruction.
+/// Why an owner's instruction is refused.
 #[derive(Clone, Copy, Debug, PartialEq, Eq, Error)]
 pub enum OwnFault {
     /// Its bytes are refused.
@@ -167,7 +167,7 @@ impl From<TargetsFault> for TermsFault {
     }
 }
 
-/// The status of a file that is refused, and 3 where memory ran out in the place of a refusal.
+/// The status of a file that is refused, and 3 if memory ran out in the place of a refusal.
 fn status_or_memory<F: Numbered>(fault: &F) -> u8
     ensures { result ≡ status_or 1 (F.numbers fault.now) }
 {
@@ -177,7 +177,7 @@ fn status_or_memory<F: Numbered>(fault: &F) -> u8
     }
 }
 
-/// The exit status of the program after a fault: 1 where a file beside an instruction is refused, and else as after any
+/// The exit status of the program after a fault: 1 if a file beside an instruction is refused, and else as after any
 /// run; see [`status`](buck_engine::status).
 pub fn status(fault: &TermsFault) -> u8
     ensures { result ≡ terms_status fault.now }

@@ -26,9 +26,9 @@ fn other_part(one: &Assortment, other: &Assortment) -> Option<u16>
     None
 }
 
-/// Where an owner's instruction differs from another though it may not: the module, else the number of assortments,
-/// else the least assortment with other species, grades, lengths or trim, in this order. None where it may stand beside
-/// it: all else may differ. The fault is `Whole` or `Part`.
+/// Finds the first difference for which an owner's instruction may not stand beside another: the module, else the
+/// number of assortments, else the least assortment with other species, grades, lengths or trim, in this order. None if
+/// it may stand beside it: all else may differ. The fault is `Whole` or `Part`.
 pub fn shape_fault(instruction: &Instruction, own: &Instruction) -> Option<OwnFault>
     ensures same { IfNone result (HasShapeOf instruction.now own.now) }
     ensures other { IfSome result (IsShapeFault instruction.now own.now) }

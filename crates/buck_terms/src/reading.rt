@@ -15,8 +15,8 @@ use buck_engine::{EngineFault, Open, read_file, read_instruction};
 use std::alloc::Global;
 use std::io;
 
-/// The number of the file behind so many others, of which the first is file 0. A number that a fault can't hold is told
-/// as 4,294,967,295.
+/// The number of the file behind so many others, of which the first is file 0. A number that a fault can't hold becomes
+/// 4,294,967,295.
 fn number_behind(others: usize) -> u32
     ensures { result ≡ min others 4294967295 }
 {
@@ -43,7 +43,7 @@ pub fn open_last<O: Open>(
     }
 }
 
-/// Opens the last file, where it is named, as [`open_last`].
+/// Opens the last file, if it is named, as [`open_last`].
 pub fn open_more<O: Open>(
     opener: &mut O,
     name: Option<&str>,
@@ -58,8 +58,8 @@ pub fn open_more<O: Open>(
     }
 }
 
-/// The targets that the file of a number has for an instruction; see [`targets_in`](crate::targets_in). `Read` where
-/// the reader fails or the file is longer than 67,108,864 bytes, and `Memory` where a growth was refused.
+/// The targets that the file of a number has for an instruction; see [`targets_in`](crate::targets_in). `Read` if the
+/// reader fails or the file is longer than 67,108,864 bytes, and `Memory` if an allocation failed.
 pub fn read_wanted<R: io::Read>(
     alloc: Global,
     reader: &mut R,

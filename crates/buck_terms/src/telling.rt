@@ -13,7 +13,7 @@ use buck_record::Numbered;
 use itoa::Buffer;
 use std::io;
 
-/// Writes a number in decimal, after a blank.
+/// Writes a number in decimal, after a space.
 #[tactic(auto, using(buck_engine::proofs::WrittenLemmas::steps))]
 fn write_number<W: io::Write>(writer: &mut W, number: u64) -> Result<(), EngineFault>
     ensures { IsWritten (W.contents writer.old) (W.contents writer.new) (32 ∷ decimal number) result }
@@ -23,7 +23,7 @@ fn write_number<W: io::Write>(writer: &mut W, number: u64) -> Result<(), EngineF
     write_text(writer, buffer.format(number).as_bytes())
 }
 
-/// Writes numbers in decimal, each after a blank.
+/// Writes numbers in decimal, each after a space.
 fn write_numbers<W: io::Write>(writer: &mut W, numbers: &[u64]) -> Result<(), EngineFault>
     ensures { IsWritten (W.contents writer.old) (W.contents writer.new) (spelled numbers.now) result }
 {
@@ -55,7 +55,7 @@ fn write_line<W: io::Write, F: Numbered>(
     write_text(writer, b"\n")
 }
 
-/// Writes the line of a fault. False where the writer failed, after a prefix of the line.
+/// Writes the line of a fault. False if the writer failed, after a prefix of the line.
 fn write_numbered<W: io::Write, F: Numbered>(writer: &mut W, kind: &[u8], fault: &F) -> bool
     ensures { TellsWritten (W.contents writer.old) (W.contents writer.new)
         (numbered_line kind.now [] (F.numbers fault.now)) result }
@@ -66,7 +66,7 @@ fn write_numbered<W: io::Write, F: Numbered>(writer: &mut W, kind: &[u8], fault:
     }
 }
 
-/// Writes the one line that the program says of a fault; see [`write_fault`]. It takes no memory. False where the
+/// Writes the one line that the program says of a fault; see [`write_fault`]. It takes no memory. False if the
 /// writer failed, after a prefix of the line.
 pub fn write_terms_fault<W: io::Write>(writer: &mut W, fault: &TermsFault) -> bool
     ensures { TellsWritten (W.contents writer.old) (W.contents writer.new) (terms_line fault.now) result }
@@ -78,7 +78,7 @@ pub fn write_terms_fault<W: io::Write>(writer: &mut W, fault: &TermsFault) -> bo
     }
 }
 
-/// Says how a run ended: nothing where it went well, and else the line of the fault. The answer is the exit status.
+/// Says how a run ended: nothing if it went well, and else the line of the fault. The answer is the exit status.
 #[tactic(auto, using(buck_engine::proofs::WrittenLemmas::first_told))]
 pub fn conclude_terms<E: io::Write>(errors: &mut E, outcome: &Result<(), TermsFault>) -> u8
     ensures status { result ≡ terms_status_after outcome.now }

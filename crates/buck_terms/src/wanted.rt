@@ -98,10 +98,10 @@ fn check_all(instruction: &Instruction, targets: &[u32]) -> Result<(), TargetsFa
 /// row: its k-th item `918 1` has those of assortment k. All other items are skipped, so that an instruction file will
 /// do.
 ///
-/// Refused as `Head` where an item has no head, else as `Digits` with the first word that is no number, else as `Count`
-/// where there isn't one list for each assortment, with one number for each class, else as `Range` with the least class
+/// Refused as `Head` if an item has no head, else as `Digits` with the first word that is no number, else as `Count`
+/// if there isn't one list for each assortment, with one number for each class, else as `Range` with the least class
 /// whose target is above 1,000,000, else as `Sum` with the least assortment whose targets are above 1,000,000,000
-/// together; and as `Memory` where a growth was refused.
+/// together; and as `Memory` if an allocation failed.
 pub fn targets_in(
     alloc: Global,
     bytes: &[u8],

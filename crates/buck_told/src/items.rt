@@ -1,9 +1,9 @@
-//! The items of instruction files and stem files, as sentences speak of them.
+//! The items of instruction files and stem files, as sentences name them.
 use buck_reason::{REQUEST, key_of};
 use buck_record::{Count, Described, Order, Slot};
 use std::fmt;
 
-/// An item of a file, and the part of it that is spoken of, by its name in the table of sentences.
+/// An item of a file, and the part of it that a sentence needs, by its name in the table of sentences.
 #[derive(Clone, Copy)]
 pub(crate) struct Part<'a> {
     pub(crate) item: &'static Described,
@@ -35,14 +35,14 @@ impl Part<'_> {
     /// Writes in which range its numbers must be.
     fn write_range<W: fmt::Write>(&self, f: &mut fmt::Formatter<W>) -> fmt::Result {
         match (self.item.count, self.item.slots) {
-            (Count::Any, _) => write!(f, "see the documents"),
+            (Count::Any, _) => write!(f, "see docs/FORMATS.md"),
             (Count::Text(most), _) => {
                 write!(f, "1 to {most} bytes, none of them a control byte, | or ~")
             }
             (_, [Slot { low, high, .. }]) => write!(f, "{low} to {high}"),
             (_, [starts, lengths, assortments]) => write!(
                 f,
-                "by turns a start of {} to {}, a length of {} to {} and an assortment of {} to {}",
+                "for each log a start of {} to {}, a length of {} to {} and an assortment of {} to {}",
                 starts.low,
                 starts.high,
                 lengths.low,
@@ -52,7 +52,7 @@ impl Part<'_> {
             ),
             (_, [starts, grades, ..]) => write!(
                 f,
-                "by turns a start of {} to {} and a grade of {} to {}",
+                "for each zone a start of {} to {} and a grade of {} to {}",
                 starts.low, starts.high, grades.low, grades.high
             ),
             (_, []) => Ok(()),
@@ -66,24 +66,27 @@ impl Part<'_> {
             Order::Rising(1) => write!(f, "must have each number above the one before"),
             Order::Rising(_) => write!(f, "must have each start above the one before"),
             Order::AboveLower => write!(f, "must be above every lower diameter (915 1)"),
-            Order::First => write!(f, "must stand before the rest of the request"),
+            Order::First => write!(f, "must come before the rest of the request"),
         }
     }
 
     /// Writes how many there must be.
     fn write_count<W: fmt::Write>(&self, f: &mut fmt::Formatter<W>) -> fmt::Result {
         match self.item.count {
-            Count::Names => write!(f, "one number, as great as there are names (911 1)"),
+            Count::Names => write!(f, "one number, the number of names (911 1)"),
             Count::UpTo(most) => write!(f, "1 to {most} numbers"),
             Count::Pairs(most) => {
                 let most = most.saturating_mul(2);
-                write!(f, "at most {most} numbers, by turns a start and a grade")
+                write!(
+                    f,
+                    "at most {most} numbers, a start and a grade for each zone"
+                )
             }
             Count::Triples(most) => {
                 let most = most.saturating_mul(3);
                 write!(
                     f,
-                    "at most {most} numbers, by turns a start, a length and an assortment"
+                    "at most {most} numbers, a start, a length and an assortment for each log"
                 )
             }
             Count::Classes => write!(f, "one number for each lower diameter and length"),

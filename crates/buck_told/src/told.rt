@@ -47,7 +47,7 @@ impl<'a> Line<'a> {
         rest.is_empty()
     }
 
-    /// The word that stands where the row has this one; nothing where it has none.
+    /// The word at the place where the row has this one; an empty one if it doesn't have it.
     fn word(&self, wanted: &str) -> &'a str {
         for (of_row, word) in self.row.split(' ').zip(self.words) {
             if of_row == wanted {
@@ -110,7 +110,7 @@ impl<'a> Line<'a> {
         Ok(true)
     }
 
-    /// Its sentence behind these words, which is put from these pieces. None where it can't be.
+    /// Returns its sentence after these words, put together from the pieces of a row; none if a piece is missing.
     fn sentence(
         &self,
         alloc: Global,
@@ -148,7 +148,7 @@ fn fitting(row: &Row, words: &[&str]) -> Option<&'static str> {
     None
 }
 
-/// The sentence of a line of these words, behind others; none where there is no such line.
+/// Returns the sentence of a line of these words, after others; none if there is no such line.
 fn sentence_of(alloc: Global, before: &str, words: &[&str]) -> Result<Option<Vec<u8>>, AllocError> {
     for row in &ROWS {
         if let Some(found) = fitting(row, words) {
@@ -164,11 +164,13 @@ fn is_journal(word: &str) -> bool {
         .is_ok_and(|number| 1 <= number && number <= MOST_JOURNALS)
 }
 
-/// The sentence of a fault line: what is wrong, with the numbers of the line put in, and what to do next. None where
-/// there is no such line: other words, a field too few or too many, an item that the file doesn't have. That of one of
-/// several journals says which, 1 to 64, and that of an owner's instruction that it is of that.
+/// Returns the sentence of a fault line: what is wrong, with the numbers of the line put in, and what to do next.
+/// None if there is no such line: other words, a missing or an extra field, an item that the file doesn't have.
+/// That of one of several journals begins with the journal's number, 1 to 64, that of an owner's instruction with the
+/// instruction.
 ///
-/// The words of the line are set apart by white bytes. A number has at most 20 digits, and may have leading zeros.
+/// The words of the line are separated by whitespace. A number has at most 20 digits, and may have leading zeros.
+/// Fails if an allocation failed.
 pub fn sentence(alloc: Global, line: &str) -> Result<Option<Vec<u8>>, AllocError> {
     let mut words = words_of(alloc, line)?;
     match words.as_slice() {
@@ -178,10 +180,10 @@ pub fn sentence(alloc: Global, line: &str) -> Result<Option<Vec<u8>>, AllocError
                 return Ok(own);
             }
             words[0] = "apt";
-            sentence_of(alloc, "Of the owner's instruction: ", words.as_slice())
+            sentence_of(alloc, "Owner's instruction: ", words.as_slice())
         }
         ["journal" | "replay", number, ..] if is_journal(number) => {
-            let before = format!(in alloc; "Of journal {number}: ")?;
+            let before = format!(in alloc; "Journal {number}: ")?;
             let _ = words.remove(1);
             sentence_of(alloc, before.as_str(), words.as_slice())
         }

@@ -43,7 +43,7 @@ stop_is_fault apt stms targets i lists fault says stop = record {
   );
 }
 
--- nothing is written where lists aren't cut
+-- nothing is written if lists aren't cut
 pub nothing_over : (lists : List (Vec (Arc Stem Global) Global)) (IsText : List ℕ → Type 0) (old : Option (List ℕ))
     (fault : EngineFault) → IsStop lists fault → WritesText (AnswersOver lists IsText) old old (Err fault)
 nothing_over lists IsText old fault stop =
@@ -74,7 +74,7 @@ abbrev pub IsNoWriteTerms : TermsFault → Type 0
 IsNoWriteTerms (Run fault) = IsNoWrite fault
 IsNoWriteTerms _ = Unit {0}
 
--- nothing is written where the files come to nothing
+-- nothing is written if the files come to nothing
 pub no_terms : (Answers : Result (List ℕ) TermsFault → Type 0) (old : Option (List ℕ)) (fault : TermsFault)
     → IsNoWriteTerms fault → Answers (Err fault) → WritesTerms Answers old old (Err fault)
 no_terms Answers old (Run Write) other a = absurd other

@@ -91,7 +91,7 @@ put_both at wholes runs gs cs gl cl s t old mid new (Ok u) some gains changes g_
   put ∙ ap (λ (l : List ℕ). l ++ spread_cells t) first ∙ append_assoc old (spread_cells s) (spread_cells t),
 )
 
--- what stands for draws, where there are some, and where there are none
+-- what stands for draws, if there are some, and if there are none
 pub some_ends : (starts : List ℕ) → 0 < length starts → (gains_head starts
     ≡ codes ",gain_min,gain_mean,gain_max,degree_change_min,degree_change_mean,degree_change_max")
     × (empty_end starts ≡ codes ",,,,,,,\n")

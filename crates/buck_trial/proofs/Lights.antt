@@ -42,7 +42,7 @@ cut_is g f rule lists b h same book cut gives by =
       by_rule = follows_rule g f rule b.history gives book.lawful by;
     })
 
--- a posting of a lawful history may be cut at base prices, where its worth is
+-- a posting of a lawful history may be cut at base prices
 pub lawful_under : (h : HistoryParts) (base : SheetParts) (k : ℕ) (x : Posting) → IsLawful h
     → base ≡ base_sheet h.instruction → slice_get h.postings k ≡ Some x → IsCutUnder base x
 lawful_under h base k (Cut e) lawful same there =

@@ -23,7 +23,7 @@ no_write_own number i file fault (inl (inr memory)) = subst IsNoWriteTerms (sym 
 no_write_own number i file fault (inr (inl said)) = subst IsNoWriteTerms (sym said.1) tt
 no_write_own number i file fault (inr (inr said)) = subst IsNoWriteTerms (sym said.2) tt
 
--- nothing is written where the owner's instruction is refused
+-- nothing is written if the owner's instruction is refused
 pub own_refused : (Answers : Result (List ℕ) TermsFault → Type 0) (number : ℕ) (i : InstructionParts)
     (file : Option (List ℕ)) (old : Option (List ℕ)) (fault : TermsFault) (r : Result (Unit {0}) TermsFault)
     → IsErrAnd r (λ x. x ≡ fault) → IsOwnFileFault number i file fault

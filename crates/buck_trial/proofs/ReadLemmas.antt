@@ -80,7 +80,7 @@ stems_fault {X} {Y} {F} held apt shown items targets (Err why) fault (Err e) sam
       cause = inl (why, err ∙ why_is, refused, full);
     })
 
--- what was read, where a fault would be one of a run
+-- what was read, if a fault would be one of a run
 pub read_says : (apt : Option (List ℕ)) (stms : List (Option (List ℕ))) (made : Result Input EngineFault)
     (input : Input) → Ok input ≡ in_terms made
     → IfOk made (λ x. SaysInput apt stms None x.instruction x.lists.items)

@@ -1,4 +1,4 @@
--- Runs of wishes, which classes are wishes, and what is told of them.
+-- Runs of wishes, which classes are wishes, and what is known of them.
 use Rattle.std.proofs.Common.{◌≡◌, mul-le-mul, ℕ, ◌+◌, ◌*◌, ◌<◌, ◌≤◌, inl, inr, List, [], ◌∷◌, ◌++◌, All, length, map, Option, Some, Result, Ok, Err, IfOk, refl, sym, ap, subst, ◌∙◌, arith}
 use Rattle.std.specs.Prelude.{slice_get, sum_by}
 use Rattle.std.specs.List.{AllByRecursion, Contains, flat_map}
@@ -198,7 +198,7 @@ module _ (i : InstructionParts) (us : List ℕ) (at : ℕ) (targets unsteered : 
     ];
   }
 
--- what is told of a wish whose runs were made with its target moved
+-- what is known of a wish whose runs were made with its target moved
 pub told_is : (a : Asking) (i : InstructionParts) (whole runs : Runs) (wish : Wish) (moved : List ℕ) (told : Told)
     → IsWishAt a.instruction.value a.unsteered.items wish.assortment wish.class
     → IsMoved a.instruction.value (opening_targets a.instruction.value) a.unsteered.items wish.assortment wish.class
@@ -226,7 +226,7 @@ told_is a i whole runs wish moved told is_wish is_moved same are is worth line =
       };
     }
 
--- what is told of wishes is about these, in their order
+-- what is known of wishes is about these, in their order
 pub told_wishes : (a : Asking) (whole : Runs) (wishes : List Wish) (told : List Told) → AreTold a whole wishes told
     → map (λ t. t.wish) told ≡ wishes
 told_wishes a whole [] [] all = refl
@@ -245,7 +245,7 @@ all_told a whole (w ∷ wishes) (t ∷ more) all =
     All-cons (IsTold a.rule a.instruction.value a.input.lists.items a.starts.items a.unsteered.items whole) t more
     all.0.is_told (all_told a whole wishes more all.1)
 
--- the table, given the runs, all wishes, and what is told of these in its order
+-- the table, given the runs, all wishes, and what is known of these in its order
 pub are_wishes : (a : Asking) (whole : Runs) (wishes : List Wish) (told sorted : List Told) (text : List ℕ) → IsAsking a
     → IsInstruction a.instruction.value → AreRunsBy a a.instruction.value whole
     → AreBelow a.instruction.value a.unsteered.items (length a.instruction.value.assortments * 1024) wishes

@@ -20,7 +20,7 @@ use Rattle.buck_terms.specs.declared.fault.TermsFault.TheVariants.{Run}
 use Rattle.buck_terms.specs.Reading.{AnswersMore, IsTargetsFileFault, SaysTargets}
 use Rattle.buck_trial.specs.declared.reading.Opened.{Opened}
 
--- the targets of a file take the place of an instruction's own, where there is one
+-- the targets of a file take the place of an instruction's own, if there is one
 abbrev pub HasWanted : InstructionParts → Option (Option (List ℕ) × ℕ) → InstructionParts → Type 0
 HasWanted own None i = i ≡ own
 HasWanted own (Some file) i = (targets : List ℕ) × SaysTargets own file.0 targets × (i ≡ with_targets targets own)

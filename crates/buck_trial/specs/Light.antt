@@ -15,7 +15,7 @@ use Rattle.buck_book.specs.Degree.{IsDegreeBy}
 use Rattle.buck_book.specs.Replies.{stems_of}
 use Rattle.buck_draws.specs.Draws.{order_of}
 
--- the lesser of two numbers, where there are both
+-- the lesser of two numbers, or the only one
 abbrev pub lesser : Option ℕ → Option ℕ → Option ℕ
 lesser None other = other
 lesser (Some one) None = Some one

@@ -64,7 +64,7 @@ losses_in drawn = map (λ o. Some (loss_of o)) drawn
 abbrev pub own_cells : OwnRun → List ℕ
 own_cells o = flat_map (λ n. number_cell (Some n)) (o.worth ∷ o.best ∷ o.unbought ∷ loss_of o ∷ [])
 
--- the cells of the losses of draws, none where there are no draws
+-- the cells of the losses of draws, none if there are no draws
 abbrev pub AreLosses : List OwnRun → List ℕ → Type 0
 AreLosses [] text = text ≡ []
 AreLosses (o ∷ more) text = AreSpread (losses_in (o ∷ more)) text
@@ -163,7 +163,7 @@ AnswersOwnedFiles {F = F} opens old new apt stms targets own (Err fault) =
     AnswersFiles {F = F} opens old new apt stms targets (Err fault)
     ⊎ StopsAtOwn {F = F} opens old new apt stms targets own fault
 
--- a run over the files that were opened; where one can't be, nothing is written
+-- a run over the files that were opened; if one can't be, nothing is written
 abbrev pub OwnedOpened : {F : Type 0} → (F → Option (List ℕ)) → TrialTask → Result (OwnedFiles F) EngineFault
     → Option (List ℕ) → Option (List ℕ) → Result (Unit {0}) TermsFault → Type 0
 OwnedOpened held task (Ok files) old new outcome =

@@ -15,7 +15,7 @@ use Rattle.buck_trial.specs.Trial.{AnswersTrial}
 use Rattle.buck_trial.specs.Tune.{AnswersTune}
 use Rattle.buck_trial.specs.Wishes.{AnswersWishes}
 
--- a run over the files that were opened; where one can't be, nothing is written
+-- a run over the files that were opened; if one can't be, nothing is written
 abbrev pub RunsOpened : {F : Type 0} → (Opened F → Result (List ℕ) TermsFault → Type 0)
     → Result (Opened F) EngineFault → Option (List ℕ) → Option (List ℕ) → Result (Unit {0}) TermsFault → Type 0
 RunsOpened Answers (Ok files) old new outcome = WritesTerms (Answers files) old new outcome

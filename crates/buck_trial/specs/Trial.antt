@@ -68,7 +68,7 @@ degrees_in drawn = map (λ d. d.least) drawn
 abbrev pub costs_in : ℕ → List Drawn → List (Option ℕ)
 costs_in best drawn = map (λ d. Some (rate_of best d.at_base)) drawn
 
--- the cells of draws: their spreads, none where there are no draws
+-- the cells of draws: their spreads, none if there are no draws
 abbrev pub AreSpreads : ℕ → List Drawn → List ℕ → Type 0
 AreSpreads best [] text = text ≡ []
 AreSpreads best (d ∷ more) text = (degrees : List ℕ) × (costs : List ℕ)
@@ -91,13 +91,13 @@ abbrev pub starts_of : Option Draws → List (Vec (Arc Stem Global) Global) → 
 starts_of None lists = []
 starts_of (Some draws) lists = starts_from draws.number draws.seed (map (λ list. list.items) lists)
 
--- the names of the columns of draws, where there are some
+-- the names of the columns of draws, if there are some
 abbrev pub drawn_head : List ℕ → List ℕ
 drawn_head [] = []
 drawn_head (start ∷ more) =
     codes ",least_degree_min,least_degree_mean,least_degree_max,cost_min,cost_mean,cost_max"
 
--- what the best cuttings at base prices are worth, where draws need it
+-- what the best cuttings at base prices are worth, if draws need it
 abbrev pub IsBestFor : InstructionParts → List (Vec (Arc Stem Global) Global) → List ℕ → ℕ → Type 0
 IsBestFor i lists [] best = Unit {0}
 IsBestFor i lists (start ∷ more) best = AreBest (base_sheet i) lists best

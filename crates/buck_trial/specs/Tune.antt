@@ -23,7 +23,7 @@ abbrev pub price_sum : HistoryParts → ℕ → ℕ
 price_sum h at = sum_by (λ x. slice_index (prices_at h.sheets (planned_version x)) at) h.postings
 
 -- the mean of so many prices that come to a sum, within what the base price of a class that is bought may be; a class
--- that isn't bought stays so, and all stays where there are no prices
+-- that isn't bought stays so, and all stays if there are no prices
 abbrev pub tuned : ℕ → ℕ → ℕ → ℕ
 tuned base sum number =
     if (base == 0) || (number == 0) then base else min (max (half_up sum number) 1) 10000000

@@ -15,7 +15,7 @@ use Rattle.buck_trial.specs.declared.outcome.Outcome.{Outcome}
 use Rattle.buck_trial.specs.declared.outcome.Runs.{Runs}
 use Rattle.buck_trial.specs.declared.wish.Wish.{Wish}
 
--- the names of the columns, and of those of draws, where there are some
+-- the names of the columns, and of those of draws, if there are some
 abbrev pub gains_head : List ℕ → List ℕ
 gains_head [] = []
 gains_head (start ∷ more) =
@@ -35,7 +35,7 @@ far_cell from to = cond (nat_lt to from) (signed_cell true (from - to)) (signed_
 abbrev pub worth_cells : Outcome → Outcome → List ℕ
 worth_cells whole run = number_cell (Some run.at_base) ++ far_cell whole.at_base run.at_base
 
--- a degree, and how far it is from that with all wishes, where there are both
+-- a degree, and how far it is from that with all wishes, if there are both
 abbrev pub change_cell_of : Option ℕ → Option ℕ → List ℕ
 change_cell_of (Some before) (Some after) = far_cell before after
 change_cell_of (Some before) None = codes ","
@@ -86,7 +86,7 @@ target_cells targets unsteered moved class =
     number_cells (slice_index targets class ∷ sum targets ∷ slice_index unsteered class ∷ sum unsteered
     ∷ slice_index moved class ∷ sum moved ∷ [])
 
--- two numbers, where there are both, and a change from one to the other
+-- two numbers, if there are both, and a change from one to the other
 abbrev pub both : Option ℕ → Option ℕ → Option (ℕ × ℕ)
 both (Some before) (Some after) = Some (before, after)
 both (Some before) None = None
@@ -113,7 +113,7 @@ gains_in wholes runs = map (λ p. Some (p.0.at_base, p.1.at_base)) (zip wholes r
 abbrev pub changes_in : ℕ → List Outcome → List Outcome → List (Option (ℕ × ℕ))
 changes_in at wholes runs = map (λ p. both (degree_in p.0 at) (degree_in p.1 at)) (zip wholes runs)
 
--- what that comes to, where there are draws
+-- what that comes to, if there are draws
 abbrev pub AreGains : ℕ → List Outcome → List Outcome → List ℕ → Type 0
 AreGains at wholes [] text = text ≡ []
 AreGains at wholes (run ∷ more) text = (gains : List ℕ) × (changes : List ℕ)

@@ -132,7 +132,7 @@ abbrev pub worth_in : Outcome → List Outcome → ℕ
 worth_in own [] = own.at_base
 worth_in own (run ∷ more) = sum_by (λ r. r.at_base) (run ∷ more)
 
--- what a wish is told by: its runs, with its target moved, beside those with all wishes
+-- what is known of a wish: its runs, with its target moved, beside those with all wishes
 pub record IsTold (rule : NamedRule) (i : InstructionParts) (lists : List (Vec (Arc Stem Global) Global))
     (starts unsteered : List ℕ) (whole : Runs) (told : Told) : Type 0 where
   pub is_wish : IsWishAt i unsteered told.wish.assortment told.wish.class

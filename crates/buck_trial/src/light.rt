@@ -116,7 +116,7 @@ pub(crate) fn degrees_of(
     Ok(degrees)
 }
 
-/// The lesser of two degrees, where there are both.
+/// The lesser of two degrees, or the only one.
 fn lesser(one: Option<u32>, other: Option<u32>) -> Option<u32>
     ensures { result ≡ lesser one other }
 {

@@ -91,7 +91,7 @@ impl<'a> Asked<'a> {
     }
 
     /// By how much all targets are multiplied before that of a class is moved: by as much as they may be, so that
-    /// little is lost where the new one is rounded.
+    /// rounding the new one loses little.
     fn factor(&self, class: usize) -> u128
         requires { IsWish self.now.targets.now self.now.unsteered.now class }
         ensures factor { result ≡ factor self.now.targets.now self.now.unsteered.now class }

@@ -1,7 +1,7 @@
 //! Who looks on while runs are made.
 use buck_engine::Nobody;
 
-/// What is told of runs while they go on, by the threads that make them. Nothing that a table has depends on it.
+/// Observes runs while they go on, called by the threads that make them. Nothing that a table has depends on it.
 pub trait RunOnlooker {
     /// So many runs are to be made.
     fn making(&self, runs: usize);

@@ -35,7 +35,7 @@ pub(crate) struct Runs {
 pub(crate) struct OwnRun {
     /// In millionths of the price unit.
     pub worth: u128,
-    /// What the best cuttings of its stems bring, in the same unit.
+    /// Worth of the best cuttings of its stems, in the same unit.
     pub best: u128,
     /// How many logs aren't bought.
     pub unbought: u64,

@@ -168,7 +168,7 @@ fn losses_in(alloc: Global, drawn: &[OwnRun]) -> Result<Vec<Option<Change>>, Mem
     Ok(losses)
 }
 
-/// Puts what draws lose, where there are some.
+/// Puts what draws lose, if there are some.
 fn put_losses(alloc: Global, out: &mut Vec<u8>, drawn: &[OwnRun]) -> Result<(), Memory>
     requires { length drawn.now ≤ 65535 }
     ensures { OnOk result ((losses : List ℕ) × AreLosses drawn.now losses × (out.new.items ≡ out.old.items ++ losses)) }
@@ -382,7 +382,7 @@ fn owned_table<T: Threads + Sync>(
         combinations.now starts.now text.items) }
     ensures stop { IfErr result (IsStop input.now.lists.items) }
 {
-    // Half of the runs are made here and half by `tails_in_parts`, so neither is told as a part of the whole.
+    // Half of the runs are made here and half by `tails_in_parts`, so neither is reported as a part of the whole.
     let lines = lines_in_parts(rt, alloc, threads, &Nobody, input, combinations)?;
     let planned = plan_all(alloc, combinations, starts)?;
     let drawn = drawn_in_parts(rt, alloc, threads, &Nobody, input, planned.as_slice())?;
@@ -433,7 +433,7 @@ fn write_owned<T: Threads + Sync, W: io::Write>(
 /// Makes the table of [`run_trial`](crate::run_trial) with more columns, which stand last: what the run of each line
 /// brings under an owner's instruction, what the best cuttings bring there, how many logs it doesn't buy, and what is
 /// lost of it in ten-thousandths; with draws, the least, the mean and the greatest of what these lose. The owner's
-/// instruction is read after all other files, and refused where it may not stand beside the instruction; see
+/// instruction is read after all other files, and refused if it may not stand beside the instruction; see
 /// [`shape_fault`](buck_terms::shape_fault).
 pub fn run_owned<T: Threads + Sync, R: io::Read + Drop, W: io::Write>(
     rt: &T,

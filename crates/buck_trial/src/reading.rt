@@ -1,4 +1,4 @@
-//! The files of a trial: an instruction, stem files, and a file of targets, where one is named.
+//! The files of a trial: an instruction, stem files, and a file of targets, if one is named.
 ghost use Rattle.std.specs.Prelude.{◌≡◌, ◌<◌, ◌≤◌, IfErr, IfOk, None, OnOk, Some, length, map};
 ghost use Rattle.std.specs.Option.{option_map};
 ghost use Rattle.std.specs.Result.{IsErrAnd};
@@ -29,7 +29,7 @@ pub struct Opened<F> {
     pub targets: Option<(F, u32)>,
 }
 
-/// Opens the instruction file, then the stem files in their order, and then the file of targets, where it is named. The
+/// Opens the instruction file, then the stem files in their order, and then the file of targets, if it is named. The
 /// first that can't be opened is `Read` with its number.
 pub(crate) fn open_files<O: Open>(
     alloc: Global,
@@ -67,7 +67,7 @@ fn check_room(lists: &[Vec<Arc<Stem>>]) -> Result<(), EngineFault>
     Ok(())
 }
 
-/// The instruction and the stems that the files have, where a history has room for these.
+/// The instruction and the stems that the files have, if a history has room for these.
 fn read_stems<R: io::Read>(alloc: Global, apt: &mut R, stms: &mut [R]) -> Result<Input, EngineFault>
     ensures seats { AreNoSeats (length stms.old) → IsErrAnd result (λ fault. fault ≡ Seats) }
     ensures few { IfOk result (λ input. length input.lists.items ≤ 64) }
@@ -106,10 +106,10 @@ fn read_moved<R: io::Read>(
     Ok(Input { instruction, lists })
 }
 
-/// What the files of a trial say: the instruction, with the targets of the file of targets in the place of its own,
-/// where there is one, and the stems. The instruction file is read first, then the stem files, and then the file of
-/// targets; each is refused where it must be before the next is read. `Full` where there are more stems than 1,000,000,
-/// before the file of targets is read.
+/// What the files of a trial say: the instruction, with the targets of the file of targets in the place of its own, if
+/// there is one, and the stems. The instruction file is read first, then the stem files, and then the file of targets;
+/// each is refused, if it must be, before the next is read. `Full` if there are more stems than 1,000,000, before the
+/// file of targets is read.
 pub(crate) fn read_files<R: io::Read + Drop>(
     alloc: Global,
     files: Opened<R>,

@@ -4,8 +4,8 @@ ghost use Rattle.buck_trial.specs.Serving.{RunsTrial, RunsWishes};
 use crate::onlooker::RunOnlooker;
 use crate::reading::open_files;
 use crate::task::{TrialTask, WishesTask};
-use crate::trial::run_trial;
-use crate::wishes::run_wishes;
+use crate::trial::run_trial_in_parts;
+use crate::wishes::run_wishes_in_parts;
 use buck_engine::Open;
 use buck_terms::TermsFault;
 use std::alloc::Global;
@@ -14,7 +14,7 @@ use std::thread::Threads;
 
 /// Makes the table that a task asks for over the files of its names. The files are opened in the order of the words,
 /// that of targets last, before one of them is read; one that can't be opened is `Read` with its number. Else the
-/// faults are those of [`run_trial`].
+/// faults are those of [`run_trial`](crate::run_trial).
 pub fn serve_trial<T: Threads + Sync, L: RunOnlooker + Sync, O: Open, W: io::Write>(
     rt: &T,
     alloc: Global,
@@ -28,11 +28,11 @@ pub fn serve_trial<T: Threads + Sync, L: RunOnlooker + Sync, O: Open, W: io::Wri
 {
     let stms = task.stms.as_slice();
     let files = open_files(alloc, opener, task.apt, stms, task.targets)?;
-    run_trial(rt, alloc, task, onlooker, files, out)
+    run_trial_in_parts(rt, alloc, task, onlooker, files, out)
 }
 
 /// Finds what each wish costs over the files of a task's names. The files are opened as by [`serve_trial`]; else the
-/// faults are those of [`run_wishes`].
+/// faults are those of [`run_wishes`](crate::run_wishes).
 pub fn serve_wishes<T: Threads + Sync, L: RunOnlooker + Sync, O: Open, W: io::Write>(
     rt: &T,
     alloc: Global,
@@ -46,5 +46,5 @@ pub fn serve_wishes<T: Threads + Sync, L: RunOnlooker + Sync, O: Open, W: io::Wr
 {
     let stms = task.stms.as_slice();
     let files = open_files(alloc, opener, task.apt, stms, task.targets)?;
-    run_wishes(rt, alloc, task, onlooker, files, out)
+    run_wishes_in_parts(rt, alloc, task, onlooker, files, out)
 }

@@ -47,7 +47,7 @@ pub(crate) fn put_first(
     Ok(())
 }
 
-/// What steering cost of what the best cuttings are worth, in ten-thousandths, to the nearest; 0 where they are worth
+/// What steering cost of what the best cuttings are worth, in ten-thousandths, to the nearest; 0 if they are worth
 /// nothing.
 pub(crate) fn cost_of(best: u128, at_base: u128) -> u128
     requires { best < 2 ^ 100 }
@@ -93,7 +93,7 @@ fn costs_in(alloc: Global, drawn: &[Drawn], best: u128) -> Result<Vec<Option<Cha
     Ok(costs)
 }
 
-/// Puts what the draws of a combination came to, where there are some.
+/// Puts what the draws of a combination came to, if there are some.
 fn put_drawn(alloc: Global, out: &mut Vec<u8>, drawn: &[Drawn], best: u128) -> Result<(), Memory>
     requires few { length drawn.now ≤ 65535 }
     requires low { best < 2 ^ 100 }
@@ -109,7 +109,7 @@ fn put_drawn(alloc: Global, out: &mut Vec<u8>, drawn: &[Drawn], best: u128) -> R
     put_spread(out, spread_of(costs.as_slice()))
 }
 
-/// Puts the line of a combination, and behind it what its draws came to, where there are some.
+/// Puts the line of a combination, and behind it what its draws came to, if there are some.
 pub(crate) fn put_line(
     alloc: Global,
     out: &mut Vec<u8>,

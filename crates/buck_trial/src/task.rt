@@ -4,7 +4,7 @@ use buck_draws::Draws;
 use buck_rule::NamedRule;
 use buck_sweep::Combination;
 
-/// What the words of the command line ask of a sweep with other targets, or with draws.
+/// The arguments of a sweep with other targets, or with draws.
 #[derive(Drop)]
 pub struct TrialTask<'a> {
     /// The runs, in the order of their lines.
@@ -13,24 +13,24 @@ pub struct TrialTask<'a> {
     pub apt: &'a str,
     /// The names of the stem files, one for each harvester.
     pub stms: Vec<&'a str>,
-    /// The name of the file of targets, where there is one.
+    /// The name of the file of targets, if there is one.
     pub targets: Option<&'a str>,
-    /// The orders that are drawn, where there are some.
+    /// The orders that are drawn, if there are some.
     pub draws: Option<Draws>,
-    /// How many runs may be done at once, in threads of their own; where nothing is said, as many as the machine has.
+    /// How many runs may be done at once, in threads of their own; if nothing is said, as many as the machine has.
     pub threads: Option<u8>,
 }
 
-/// What the words of the command line ask of such a sweep, whose lines also say what an owner pays.
+/// The arguments of such a sweep whose lines also say what an owner pays.
 #[derive(Drop)]
 pub struct OwnedTask<'a> {
-    /// All else.
+    /// The arguments of the sweep itself.
     pub trial: TrialTask<'a>,
     /// The name of the file of the owner's instruction.
     pub own: &'a str,
 }
 
-/// What the words of the command line ask of wishes.
+/// The arguments of a run of wishes.
 #[derive(Drop)]
 pub struct WishesTask<'a> {
     /// How prices follow what was cut.
@@ -41,15 +41,15 @@ pub struct WishesTask<'a> {
     pub apt: &'a str,
     /// The names of the stem files, one for each harvester.
     pub stms: Vec<&'a str>,
-    /// The name of the file of targets, where there is one.
+    /// The name of the file of targets, if there is one.
     pub targets: Option<&'a str>,
-    /// The orders that are drawn, where there are some.
+    /// The orders that are drawn, if there are some.
     pub draws: Option<Draws>,
-    /// How many runs may be done at once, in threads of their own; where nothing is said, as many as the machine has.
+    /// How many runs may be done at once, in threads of their own; if nothing is said, as many as the machine has.
     pub threads: Option<u8>,
 }
 
-/// What the words of the command line ask of an instruction that is to be tuned.
+/// The arguments of a run that tunes an instruction.
 #[derive(Drop)]
 pub struct TuneTask<'a> {
     /// How prices follow what is cut.
@@ -60,6 +60,6 @@ pub struct TuneTask<'a> {
     pub apt: &'a str,
     /// The names of the stem files, one for each harvester.
     pub stms: Vec<&'a str>,
-    /// The name of the file of targets, where there is one.
+    /// The name of the file of targets, if there is one.
     pub targets: Option<&'a str>,
 }

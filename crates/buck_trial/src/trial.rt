@@ -202,7 +202,7 @@ pub(crate) fn all_starts(
     }
 }
 
-/// What the best cuttings at base prices are worth, where there are draws that need it.
+/// What the best cuttings at base prices are worth, if there are draws that need it.
 pub(crate) fn best_of(alloc: Global, input: &Input, starts: &[u64]) -> Result<u128, Memory>
     requires room { stems_in_all input.now.lists.items ≤ MOST_POSTINGS }
     ensures best { IfOk result (IsBestFor input.now.instruction input.now.lists.items starts.now) }
@@ -216,7 +216,7 @@ pub(crate) fn best_of(alloc: Global, input: &Input, starts: &[u64]) -> Result<u1
 }
 
 /// What the runs of some combinations came to: a line of each, and what all of its draws came to, one combination after
-/// the other; and what the best cuttings are worth, where there are draws.
+/// the other; and what the best cuttings are worth, if there are draws.
 #[derive(Clone, Copy)]
 pub(crate) struct Made<'a> {
     pub lines: &'a [Vec<u8>],
@@ -283,6 +283,34 @@ fn table_of<T: Threads + Sync, L: RunOnlooker + Sync>(
     Ok(text_of(alloc, input, combinations, starts, made)?)
 }
 
+/// The table of some combinations over what files say, one run after the other.
+fn table_one_by_one<L: RunOnlooker>(
+    alloc: Global,
+    onlooker: &L,
+    input: &Input,
+    combinations: &[Combination],
+    starts: &[u64],
+) -> Result<Vec<u8>, EngineFault>
+    requires few { length input.now.lists.items ≤ 64 }
+    requires room { stems_in_all input.now.lists.items ≤ MOST_POSTINGS }
+    requires starts { length starts.now ≤ 65535 }
+    ensures ok { IfOk result (λ text.
+        IsTrialOver input.now.instruction input.now.lists.items combinations.now starts.now text.items) }
+    ensures stop { IfErr result (IsStop input.now.lists.items) }
+{
+    onlooker.making(combinations.len().saturating_mul(starts.len() + 1));
+    let lines = lines_of(alloc, input, onlooker, combinations)?;
+    let planned = plan_all(alloc, combinations, starts)?;
+    let drawn = drawn_of(alloc, input, onlooker, planned.as_slice())?;
+    let best = best_of(alloc, input, starts)?;
+    let made = Made {
+        lines: lines.as_slice(),
+        drawn: drawn.as_slice(),
+        best,
+    };
+    Ok(text_of(alloc, input, combinations, starts, made)?)
+}
+
 /// Makes the table of a task over what files say, and writes it.
 fn write_trial<T: Threads + Sync, L: RunOnlooker + Sync, W: io::Write>(
     rt: &T,
@@ -313,19 +341,36 @@ fn write_trial<T: Threads + Sync, L: RunOnlooker + Sync, W: io::Write>(
     write_text(out, text.as_slice())
 }
 
-/// Reads an instruction file, stem files and a file of targets, where there is one, cuts the stems in turn once for
+/// [`write_trial`], one run after the other.
+fn write_one_by_one<L: RunOnlooker, W: io::Write>(
+    alloc: Global,
+    task: &TrialTask<'_>,
+    onlooker: &L,
+    input: &Input,
+    out: &mut W,
+) -> Result<(), EngineFault>
+    requires few { length input.now.lists.items ≤ 64 }
+    requires room { stems_in_all input.now.lists.items ≤ MOST_POSTINGS }
+    ensures { WritesText (AnswersOver input.now.lists.items (IsTrialOver input.now.instruction input.now.lists.items
+        task.now.combinations.items (starts_of task.now.draws input.now.lists.items)))
+        (W.contents out.old) (W.contents out.new) result }
+{
+    let starts = all_starts(alloc, &task.draws, input)?;
+    let combinations = task.combinations.as_slice();
+    let text = table_one_by_one(alloc, onlooker, input, combinations, starts.as_slice())?;
+    write_text(out, text.as_slice())
+}
+
+/// Reads an instruction file, stem files and a file of targets, if there is one, cuts the stems in turn once for
 /// each combination, and once more for each draw of an order, and writes what that came to: the lines of a sweep, and
-/// behind each what its draws came to. The runs are done in several threads at once: in as many as are told, from 1 to
-/// 64, or, where nothing is said, in as many as the machine has; what is written doesn't depend on it. Nothing is
-/// written before the whole table is there.
+/// behind each what its draws came to. Nothing is written before the whole table is there.
 ///
-/// `Seats` comes where there are not 1 to 64 stem files, before anything is read. The instruction file is file 0, the
-/// k-th stem file is file k, and the file of targets is the last; each is read, and refused where it must be, before
-/// the next: as `Read`, `Apt`, `Stm` or `Targets`. `Full` comes where there are more stems than 1,000,000, before the
-/// file of targets is read, `Write` where the writer fails, which leaves a prefix of the table, and `Memory` where a
-/// growth was refused.
-pub fn run_trial<T: Threads + Sync, L: RunOnlooker + Sync, R: io::Read + Drop, W: io::Write>(
-    rt: &T,
+/// `Seats` comes if there are not 1 to 64 stem files, before anything is read. The instruction file is file 0, the
+/// k-th stem file is file k, and the file of targets is the last; each is read, and refused if it must be, before
+/// the next: as `Read`, `Apt`, `Stm` or `Targets`. `Full` comes if there are more stems than 1,000,000, before the
+/// file of targets is read, `Write` if the writer fails, which leaves a prefix of the table, and `Memory` if an
+/// allocation failed.
+pub fn run_trial<L: RunOnlooker, R: io::Read + Drop, W: io::Write>(
     alloc: Global,
     task: &TrialTask<'_>,
     onlooker: &L,
@@ -336,6 +381,31 @@ pub fn run_trial<T: Threads + Sync, L: RunOnlooker + Sync, R: io::Read + Drop, W
     // targets of the file of targets: each line that of a run by its rule, and its draws those of runs in the orders
     // drawn. A fault is that of the first file that has one, or comes after all of them, and nothing is written; a
     // write fault leaves a prefix of the table.
+    ensures { IsTrialRun task.now.combinations.items task.now.draws (R.remaining files.apt)
+        (map R.remaining files.stms.items) (held_with R.remaining files.targets)
+        (W.contents out.old) (W.contents out.new) result }
+{
+    let input = read_files(alloc, files)?;
+    of_run(write_one_by_one(alloc, task, onlooker, &input, out))
+}
+
+/// [`run_trial`] with the runs done in several threads at once: in the given number, from 1 to 64, or, if none is
+/// given, in as many as the machine has. What is written, and each fault, are those of [`run_trial`], whatever the
+/// number.
+pub fn run_trial_in_parts<
+    T: Threads + Sync,
+    L: RunOnlooker + Sync,
+    R: io::Read + Drop,
+    W: io::Write,
+>(
+    rt: &T,
+    alloc: Global,
+    task: &TrialTask<'_>,
+    onlooker: &L,
+    files: Opened<R>,
+    out: &mut W,
+) -> Result<(), TermsFault>
+    // As of [`run_trial`].
     ensures { IsTrialRun task.now.combinations.items task.now.draws (R.remaining files.apt)
         (map R.remaining files.stms.items) (held_with R.remaining files.targets)
         (W.contents out.old) (W.contents out.new) result }

@@ -96,7 +96,7 @@ pub fn tuned_prices(alloc: Global, parts: &Parts) -> Result<Vec<u32>, Memory>
     Ok(prices)
 }
 
-/// How many stems lists have, which is told alone.
+/// How many stems lists have; only the onlooker needs it.
 fn number_of(lists: &[Vec<Arc<Stem>>]) -> usize {
     let mut number = 0usize;
     for list in lists {
@@ -142,10 +142,10 @@ fn write_tuned<L: Onlooker, W: io::Write>(
     write_text(out, text.as_slice())
 }
 
-/// Reads an instruction file, stem files and a file of targets, where there is one, cuts the stems in turn by a rule,
+/// Reads an instruction file, stem files and a file of targets, if there is one, cuts the stems in turn by a rule,
 /// and writes the instruction with other base prices, in its normal form: that of a class is the mean of its prices in
 /// force over all stems, rounded to the nearest, a half upwards, and at least 1 and at most 10,000,000. A class that
-/// isn't bought stays so, and without stems all prices stay. The targets are those of the file of targets, where there
+/// isn't bought stays so, and without stems all prices stay. The targets are those of the file of targets, if there
 /// is one; the settings are the run's alone. Nothing is written before the whole text is there.
 pub fn run_tune<L: Onlooker, R: io::Read + Drop, W: io::Write>(
     alloc: Global,

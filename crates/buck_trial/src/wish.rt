@@ -30,7 +30,7 @@ pub(crate) struct Wish {
     pub class: usize,
 }
 
-/// A line, and by what it is put in order: what the runs of the wish cut, where there are draws in these.
+/// A line, and by what it is put in order: what the runs of the wish cut, if there are draws in these.
 #[derive(Drop)]
 pub(crate) struct Told {
     pub wish: Wish,
@@ -38,7 +38,7 @@ pub(crate) struct Told {
     pub line: Vec<u8>,
 }
 
-/// A number before and after, where there are both.
+/// A number before and after, if there are both.
 fn change_of(before: Option<u32>, after: Option<u32>) -> Option<Change>
     ensures { IsChangeOf (both before after) result }
 {
@@ -95,7 +95,7 @@ fn changes_of(
     Ok(changes)
 }
 
-/// What the runs cut: in the draws, or, where there are none, in the files' own order.
+/// What the runs cut: in the draws, or, if there are none, in the files' own order.
 fn worth_of(runs: &Runs) -> u128
     requires { length runs.now.drawn.items ≤ 65535 }
     ensures { result ≡ worth_in runs.now.own runs.now.drawn.items }
@@ -209,7 +209,7 @@ fn put_outcome(out: &mut Vec<u8>, whole: &Outcome, run: &Outcome, at: usize) -> 
     put_degree(out, whole.least, run.least)
 }
 
-/// Puts what the draws came to beside others in the same orders, where there are some.
+/// Puts what the draws came to beside others in the same orders, if there are some.
 fn put_gains(
     alloc: Global,
     out: &mut Vec<u8>,

@@ -298,6 +298,26 @@ fn table_of<T: Threads + Sync, L: RunOnlooker + Sync>(
     Ok(text_of(alloc, asking.starts.as_slice(), &whole.own, told.as_slice())?)
 }
 
+/// The table of all wishes, one run after the other.
+fn table_one_by_one<L: RunOnlooker>(
+    alloc: Global,
+    onlooker: &L,
+    asking: &Asking,
+) -> Result<Vec<u8>, EngineFault>
+    requires asking { IsAsking asking.now }
+    ensures ok { IfOk result (λ text. AreWishes asking.now.rule asking.now.instruction.value
+        asking.now.input.lists.items asking.now.starts.items text.items) }
+    ensures stop { IfErr result (IsStop asking.now.input.lists.items) }
+{
+    let wishes = wishes_of(alloc, asking)?;
+    onlooker.making(asking.number().saturating_mul(wishes.len() + 1));
+    let whole = asking.runs(alloc, &asking.instruction)?;
+    onlooker.made(asking.number());
+    let mut told = told_of(alloc, asking, onlooker, &whole, wishes.as_slice())?;
+    told.sort_by(by_worth)?;
+    Ok(text_of(alloc, asking.starts.as_slice(), &whole.own, told.as_slice())?)
+}
+
 /// Finds what each wish costs over what files say, and writes it.
 fn write_wishes<T: Threads + Sync, L: RunOnlooker + Sync, W: io::Write>(
     rt: &T,
@@ -319,14 +339,31 @@ fn write_wishes<T: Threads + Sync, L: RunOnlooker + Sync, W: io::Write>(
     write_text(out, text.as_slice())
 }
 
-/// Reads an instruction file, stem files and a file of targets, where there is one, and writes what each wish costs: a
+/// [`write_wishes`], one run after the other.
+fn write_one_by_one<L: RunOnlooker, W: io::Write>(
+    alloc: Global,
+    task: &WishesTask<'_>,
+    onlooker: &L,
+    input: Input,
+    out: &mut W,
+) -> Result<(), EngineFault>
+    requires few { length input.lists.items ≤ 64 }
+    ensures { WritesText (AnswersOver input.lists.items (AreWishes task.now.rule
+        (with_settings task.now.settings input.instruction) input.lists.items
+        (starts_of task.now.draws input.lists.items)))
+        (W.contents out.old) (W.contents out.new) result }
+{
+    let asking = asking_of(alloc, input, task)?;
+    let text = table_one_by_one(alloc, onlooker, &asking)?;
+    write_text(out, text.as_slice())
+}
+
+/// Reads an instruction file, stem files and a file of targets, if there is one, and writes what each wish costs: a
 /// line of columns, a line for the run with all wishes, and then a line for each class whose target isn't the share
 /// that it has unsteered: the run with that target moved half way to that share, by the same rule. The greatest gain
-/// comes first, and of equals the lower class; with draws by the sum of their gains. The runs are done in several
-/// threads at once, and the faults are those of [`run_trial`](crate::run_trial). Nothing is written before the whole
-/// table is there.
-pub fn run_wishes<T: Threads + Sync, L: RunOnlooker + Sync, R: io::Read + Drop, W: io::Write>(
-    rt: &T,
+/// comes first, and of equals the lower class; with draws by the sum of their gains. The faults are those of
+/// [`run_trial`](crate::run_trial). Nothing is written before the whole table is there.
+pub fn run_wishes<L: RunOnlooker, R: io::Read + Drop, W: io::Write>(
     alloc: Global,
     task: &WishesTask<'_>,
     onlooker: &L,
@@ -337,6 +374,30 @@ pub fn run_wishes<T: Threads + Sync, L: RunOnlooker + Sync, R: io::Read + Drop, 
     // of the file of targets: each line that of runs with its target moved, beside those with all wishes. A fault is
     // that of the first file that has one, or comes after all of them, and nothing is written; a write fault leaves a
     // prefix of the table.
+    ensures { WritesTerms (AnswersWishes task.now.rule task.now.settings task.now.draws (R.remaining files.apt)
+        (map R.remaining files.stms.items) (held_with R.remaining files.targets))
+        (W.contents out.old) (W.contents out.new) result }
+{
+    let input = read_files(alloc, files)?;
+    of_run(write_one_by_one(alloc, task, onlooker, input, out))
+}
+
+/// [`run_wishes`], whose runs are done in several threads at once, as those of
+/// [`run_trial_in_parts`](crate::run_trial_in_parts).
+pub fn run_wishes_in_parts<
+    T: Threads + Sync,
+    L: RunOnlooker + Sync,
+    R: io::Read + Drop,
+    W: io::Write,
+>(
+    rt: &T,
+    alloc: Global,
+    task: &WishesTask<'_>,
+    onlooker: &L,
+    files: Opened<R>,
+    out: &mut W,
+) -> Result<(), TermsFault>
+    // As of [`run_wishes`].
     ensures { WritesTerms (AnswersWishes task.now.rule task.now.settings task.now.draws (R.remaining files.apt)
         (map R.remaining files.stms.items) (held_with R.remaining files.targets))
         (W.contents out.old) (W.contents out.new) result }

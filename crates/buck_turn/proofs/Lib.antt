@@ -1,3 +1,1 @@
-pub mod Counted
 pub mod Rounds
-pub mod Taking

@@ -1,252 +1,230 @@
--- One posting more: what a harvester cut, and how rounds go on.
-use Rattle.std.proofs.Common.{◌≡◌, ℕ, zero, suc, Bool, true, false, ◌+◌, ◌<◌, ◌≤◌, ◌==◌, ◌⊎◌, inl, inr, cond, List, [], ◌∷◌, ◌++◌, length, map, take, get_or, refl, sym, ap, subst, ◌∙◌, arith, take_all, append-nil}
+-- Lists that are cut in turn, one turn on.
+use Rattle.std.proofs.Common.{◌≡◌, ℕ, zero, suc, Bool, true, false, ◌+◌, ◌<◌, ◌≤◌, ◌==◌, inl, inr, min, cond, List, [], ◌∷◌, ◌++◌, length, map, take, get_or, All, refl, sym, ap, subst, ◌∙◌, arith, take_all, append-nil}
+use Rattle.std.proofs.lemmas.Bool.{cases_Bool, cases_eq}
 use Rattle.std.proofs.lemmas.Bool.Decides.{nat_tests}
-use Rattle.std.proofs.lemmas.List.{get_or-map, length-map, length-take-le, map-append, take_more}
-use Rattle.std.proofs.lemmas.List.Elements.{All-from_recursion}
-use Rattle.std.proofs.lemmas.List.Sums.{sum_by_push}
-use Rattle.std.specs.List.{AllByRecursion}
+use Rattle.std.proofs.lemmas.List.{get_or-map, length-map, length-take, length_push, map-append, take_more}
+use Rattle.std.proofs.lemmas.List.Elements.{All-from_recursion, All-map, All-more, All-nil, All-push, All-tail, All-weaker, filter-append, recursion_from_All}
+use Rattle.std.proofs.lemmas.List.Sums.{length-filter, sum_by-cons}
+use Rattle.std.specs.List.{AllByRecursion, filter}
 use Rattle.std.specs.Prelude.{Option, Some}
 use Rattle.std.specs.declared.sync.Arc.{Arc}
-use Rattle.std.specs.declared.vec.Vec.{Vec}
 use Rattle.std.specs.declared.alloc.Global.{Global}
 use Rattle.std.specs.Arc.{arc_value}
 use Rattle.buck_stem.specs.Stem.{StemParts}
 use Rattle.buck_stem.specs.declared.stem.Stem.{Stem}
 use Rattle.buck_book.specs.declared.posting.Posting.{Posting}
 use Rattle.buck_book.specs.declared.posting.Posting.TheVariants.{Cut}
+use Rattle.buck_book.specs.declared.posting.Kept.{Kept}
 use Rattle.buck_book.specs.Entry.{EntryParts}
 use Rattle.buck_book.specs.Posting.{harvester_of, number_of}
 use Rattle.buck_book.specs.Counts.{calls_of}
 use Rattle.buck_book.specs.History.{HistoryParts}
-use Rattle.buck_book.specs.declared.posting.Kept.{Kept}
 use Rattle.buck_book.specs.Replies.{replies_from, stem_cut, stems_at, stems_of}
-use Rattle.buck_turn.specs.Turn.{ComesBefore, AreInTurn, HasCutInTurn}
-use Rattle.buck_turn.specs.inner.Rounds.{HasCutFirst, HasCutRounds, IsWithinRound}
+use Rattle.buck_cutter.specs.Cut.{OfPrices, HasCut}
+use Rattle.buck_turn.specs.Turn.{StemList, ComesBefore, AreInTurn, HasCutInTurn, stems_in_all}
+use Rattle.buck_turn.specs.inner.Rounds.{HasCutRounds, IsWithinRound, cut_in, stems_by}
 
--- the stems that a harvester cut, where the first posting has this position
-abbrev stems_from : ℕ → ℕ → List Posting → List (Option StemParts)
-stems_from h p ps = map (λ (x : Kept). stem_cut x.entry) (replies_from h p ps)
+abbrev size : StemList → ℕ
+size list = length list.items
 
-more_stems : (h p : ℕ) (ps : List Posting) (x : Posting)
-    → stems_from h p (ps ++ x ∷ []) ≡ stems_from h p ps ++ cond (harvester_of x == h) (stem_cut x ∷ []) []
-more_stems h p [] x = by_test (harvester_of x == h) where
-  by_test : (b : Bool)
-      → map (λ (y : Kept). stem_cut y.entry) (cond b ((record { position = p; entry = x }) ∷ []) [])
-      ≡ cond b (stem_cut x ∷ []) []
-  by_test true = refl
-  by_test false = refl
-more_stems h p (y ∷ ps) x = by_test (more_stems h (p + 1) ps x) (harvester_of y == h) where
-  by_test : stems_from h (p + 1) (ps ++ x ∷ []) ≡ stems_from h (p + 1) ps
-      ++ cond (harvester_of x == h) (stem_cut x ∷ []) []
-      → (b : Bool)
-      → map (λ (z : Kept). stem_cut z.entry)
-      (cond b ((record { position = p; entry = y }) ∷ replies_from h (p + 1) (ps ++ x ∷ []))
-      (replies_from h (p + 1) (ps ++ x ∷ [])))
-      ≡ map (λ (z : Kept). stem_cut z.entry)
-      (cond b ((record { position = p; entry = y }) ∷ replies_from h (p + 1) ps) (replies_from h (p + 1) ps))
-      ++ cond (harvester_of x == h) (stem_cut x ∷ []) []
-  by_test ih true = ap (λ (l : List (Option StemParts)). stem_cut y ∷ l) ih
-  by_test ih false = ih
+-- the stems that a harvester cut, as its replies have them
+replies : (h p : ℕ) (ps : List Posting)
+    → map (λ (y : Kept). stem_cut y.entry) (replies_from h p ps) ≡ stems_by h ps
+replies h p [] = refl
+replies h p (x ∷ ps) = elim (cases_Bool (harvester_of x == h)) [
+  | inl own ↦ rw own (ap (λ (l : List (Option StemParts)). stem_cut x ∷ l) (replies h (p + 1) ps))
+  | inr other ↦ rw other (replies h (p + 1) ps)
+]
 
-more_calls : (h : ℕ) (ps : List Posting) (x : Posting)
-    → calls_of h (ps ++ x ∷ []) ≡ calls_of h ps + cond (harvester_of x == h) 1 0
-more_calls h ps x = sum_by_push (λ (y : Posting). cond (harvester_of y == h) 1 0) ps x
+-- with one posting more
+stems_with : (h : ℕ) (ps : List Posting) (x : Posting)
+    → stems_by h (ps ++ x ∷ []) ≡ stems_by h ps ++ map stem_cut (cond (harvester_of x == h) (x ∷ []) [])
+stems_with h ps x =
+    ap (map stem_cut) (filter-append (λ (y : Posting). harvester_of y == h) ps (x ∷ []))
+    ∙ map-append stem_cut (filter (λ (y : Posting). harvester_of y == h) ps) _
 
-one_more : {A : Type 0} (xs : List A) (n : ℕ) (x : A) → n < length xs → x ≡ get_or xs n x
-    → take (n + 1) xs ≡ take n xs ++ x ∷ []
-one_more xs n x lt is = take_more xs n x lt ∙ ap (λ (y : _). take n xs ++ y ∷ []) (sym is)
-
-all_with_last : {A : Type 0} (P : A → Type 0) (xs : List A) (z : A) → AllByRecursion P xs → P z
-    → AllByRecursion P (xs ++ z ∷ [])
-all_with_last P [] z all last = (last, tt)
-all_with_last P (x ∷ xs) z all last = (all.0, all_with_last P xs z all.1 last)
-
-all_of_weaker : {A : Type 0} (P Q : A → Type 0) → ((x : A) → P x → Q x) → (xs : List A) → AllByRecursion P xs
-    → AllByRecursion Q xs
-all_of_weaker P Q weaker [] all = tt
-all_of_weaker P Q weaker (x ∷ xs) all = (weaker x all.0, all_of_weaker P Q weaker xs all.1)
-
-in_turn_with_last : (ps : List Posting) (z : Posting) → AreInTurn ps → AllByRecursion (λ x. ComesBefore x z) ps
+in_turn_with : (ps : List Posting) (z : Posting) → AreInTurn ps → AllByRecursion (λ x. ComesBefore x z) ps
     → AreInTurn (ps ++ z ∷ [])
-in_turn_with_last [] z are before = (tt, tt)
-in_turn_with_last (x ∷ ps) z are before =
-    (all_with_last (ComesBefore x) ps z are.0 before.0, in_turn_with_last ps z are.1 before.1)
+in_turn_with [] z are before = (tt, tt)
+in_turn_with (x ∷ ps) z (first, are) (here, before) = (
+  recursion_from_All (ComesBefore x) (ps ++ z ∷ [])
+      (All-push (ComesBefore x) ps z (All-from_recursion (ComesBefore x) ps first) here),
+  in_turn_with ps z are before,
+)
 
--- its next stem, and another's
-cut_one_more : (n : ℕ) (stems : List StemParts) (h : ℕ) (ps : List Posting) (e : EntryParts) (stem : StemParts)
-    → n < length stems → stem ≡ get_or stems n stem → e.harvester ≡ h → e.stem ≡ stem → HasCutFirst n stems h ps
-    → HasCutFirst (n + 1) stems h (ps ++ Cut e ∷ [])
-cut_one_more n stems h ps e stem lt at harvester same cut =
-    let yes : (e.harvester == h) ≡ true = grind (arith, nat_tests, harvester) in
-    let first = one_more stems n stem lt at in
-    record {
-      stems_are = more_stems h 0 ps (Cut e)
-          ∙ ap (λ (b : Bool). stems_from h 0 ps ++ cond b (Some e.stem ∷ []) []) yes
-          ∙ ap (λ (l : List (Option StemParts)). l ++ Some e.stem ∷ []) cut.stems_are
-          ∙ ap (λ (s : StemParts). map Some (take n stems) ++ Some s ∷ []) same
-          ∙ sym (map-append Some (take n stems) (stem ∷ []))
-          ∙ ap (map Some) (sym first);
-      calls = more_calls h ps (Cut e)
-          ∙ ap (λ (b : Bool). calls_of h ps + cond b 1 0) yes
-          ∙ (let a = length-take-le n stems (omega (arith, lt)) in let b =
-          length-take-le (n + 1) stems (omega (arith, lt)) in omega (arith, a, b, cut.calls));
-    }
+-- how many stems are cut: before the first round, one turn on, and a round on; at most all, and all if no list is
+-- longer
+cut_none : (lists : List StemList) → cut_in 0 0 lists ≡ 0
+cut_none [] = refl
+cut_none (x ∷ lists) = omega (arith, cut_none lists)
 
-cut_by_another : (n : ℕ) (stems : List StemParts) (h : ℕ) (ps : List Posting) (x : Posting)
-    → (harvester_of x == h) ≡ false → HasCutFirst n stems h ps → HasCutFirst n stems h (ps ++ x ∷ [])
-cut_by_another n stems h ps x other cut = record {
-  stems_are = more_stems h 0 ps x ∙ ap (λ (b : Bool). stems_from h 0 ps ++ cond b (stem_cut x ∷ []) []) other
-      ∙ append-nil (stems_from h 0 ps) ∙ cut.stems_are;
-  calls = more_calls h ps x ∙ ap (λ (b : Bool). calls_of h ps + cond b 1 0) other ∙ (omega (arith, cut.calls));
-}
+cut_more : (rounds k : ℕ) (lists : List StemList) (list : StemList) → k < length lists → list ≡ get_or lists k list
+    → cut_in rounds (k + 1) lists + min rounds (size list) ≡ cut_in rounds k lists + min (rounds + 1) (size list)
+cut_more rounds k [] list lt is = absurd (omega (arith, lt))
+cut_more rounds zero (x ∷ lists) list lt is = omega (arith, ap size is)
+cut_more rounds (suc k) (x ∷ lists) list lt is =
+    let next : suc k + 1 ≡ suc (k + 1) = omega arith in
+    rw next (omega (arith, cut_more rounds k lists list (omega (arith, lt)) is))
 
-two_ways : (j k : ℕ) → j < k + 1 → (j < k) ⊎ (j ≡ k)
-two_ways j k low = grind arith
+cut_round : (rounds : ℕ) (lists : List StemList) → cut_in rounds (length lists) lists ≡ cut_in (rounds + 1) 0 lists
+cut_round rounds [] = refl
+cut_round rounds (x ∷ lists) = omega (arith, cut_round rounds lists)
 
-before_next : (rounds k : ℕ) (z : Posting) → number_of z ≡ rounds + 1 → harvester_of z ≡ k + 1 → (x : Posting)
+cut_low : (rounds k : ℕ) (lists : List StemList) → cut_in rounds k lists ≤ stems_in_all lists
+cut_low rounds k [] = omega arith
+cut_low rounds zero (x ∷ lists) = omega (arith, cut_low rounds zero lists, sum_by-cons size x lists)
+cut_low rounds (suc k) (x ∷ lists) = omega (arith, cut_low rounds k lists, sum_by-cons size x lists)
+
+pub cut_all : (rounds : ℕ) (lists : List StemList) → All (λ list. size list ≤ rounds) lists
+    → cut_in rounds 0 lists ≡ stems_in_all lists
+cut_all rounds [] long = refl
+cut_all rounds (x ∷ lists) long =
+    let rest = cut_all rounds lists (All-tail (λ (list : StemList). size list ≤ rounds) x lists long) in
+    let here : size x ≤ rounds = long 0 x (omega arith) in
+    omega (arith, rest, here, sum_by-cons size x lists)
+
+-- the stems of the list at a place
+list_at : (lists : List StemList) (k : ℕ) (list : StemList) → k < length lists → list ≡ get_or lists k list
+    → stems_at lists k ≡ stems_of list.items
+list_at lists k list lt is =
+    get_or-map (λ (v : StemList). stems_of v.items) lists k list [] lt ∙ ap (λ (v : StemList). stems_of v.items) (sym is)
+
+before : (rounds k : ℕ) (z : Posting) → number_of z ≡ rounds + 1 → harvester_of z ≡ k + 1 → (x : Posting)
     → IsWithinRound rounds k x → ComesBefore x z
-before_next rounds k z number harvester x within = elim within [
-  | inl less ↦ inl (omega (arith, less, number))
-  | inr same ↦ inr (same.0 ∙ sym number, omega (arith, same.1, harvester))
-]
+before rounds k z number harvester x (inl less) = inl (omega (arith, less, number))
+before rounds k z number harvester x (inr same) = inr (same.0 ∙ sym number, omega (arith, same.1, harvester))
 
-within_next : (rounds k : ℕ) (x : Posting) → IsWithinRound rounds k x → IsWithinRound rounds (k + 1) x
-within_next rounds k x within = elim within [
-  | inl less ↦ inl less
-  | inr same ↦ inr (same.0, omega (arith, same.1))
-]
+next_turn : (rounds k : ℕ) (x : Posting) → IsWithinRound rounds k x → IsWithinRound rounds (k + 1) x
+next_turn rounds k x within = grind (arith, within)
 
 -- before the first round
-pub nothing_cut : (lists : List (Vec (Arc Stem Global) Global)) → HasCutRounds 0 0 lists []
+pub nothing_cut : (lists : List StemList) → HasCutRounds 0 0 lists []
 nothing_cut lists = record {
-  had_turn = λ j low. absurd (omega (arith, low));
-  no_turn = λ j le lt. record { stems_are = refl; calls = refl };
-  own = tt;
+  stems = λ j turns lt is. (let none : turns ≡ 0 = omega (arith, is) in rw none refl);
+  number = sym (cut_none lists);
+  own = All-nil _;
   in_turn = tt;
-  within = tt;
+  within = All-nil _;
 }
 
--- the harvester at place k cuts its next stem
-turn_taken : (rounds k : ℕ) (lists : List (Vec (Arc Stem Global) Global)) (ps : List Posting) (stem : StemParts)
-    (e : EntryParts)
-    → k < length lists → rounds < length (stems_at lists k) → stem ≡ get_or (stems_at lists k) rounds stem
-    → HasCutRounds rounds k lists ps → e.harvester ≡ k + 1 → e.stem ≡ stem → e.number ≡ calls_of (k + 1) ps + 1
-    → HasCutRounds rounds (k + 1) lists (ps ++ Cut e ∷ [])
-turn_taken rounds k lists ps stem e lt long at so_far same_harvester same_stem number_is_next =
-    let mine = so_far.no_turn k (omega arith) lt in
-    let number : e.number ≡ rounds + 1 =
-    (let a = length-take-le rounds (stems_at lists k) (omega (arith, long)) in
-    omega (arith, number_is_next, mine.calls, a)) in
-    record {
-      had_turn = λ j low. elim (two_ways j k low) [
-        | inl less ↦ cut_by_another _ _ (j + 1) ps (Cut e) (grind (arith, nat_tests, same_harvester, less))
-            (so_far.had_turn j less)
-        | inr same ↦
-            subst (λ (i : ℕ). HasCutFirst (rounds + 1) (stems_at lists i) (i + 1) (ps ++ Cut e ∷ [])) (sym same)
-            (cut_one_more rounds _ (k + 1) ps e stem long at same_harvester same_stem mine)
+-- the harvester at place k cut the next stem of its list
+pub taken : (P : OfPrices) (rounds k : ℕ) (lists : List StemList) (h after : HistoryParts) (list : StemList)
+    (a : Arc Stem Global) {who : ℕ} {stem : StemParts} {e : EntryParts}
+    → HasCut P who stem h after e → who ≡ k + 1 → stem ≡ arc_value a
+    → k < length lists → list ≡ get_or lists k list → rounds < size list → a ≡ get_or list.items rounds a
+    → HasCutRounds rounds k lists h.postings → HasCutRounds rounds (k + 1) lists after.postings
+taken P rounds k lists h after list a {who} {stem} {e} cut who_is stem_is lt is long there so_far =
+    let ps = h.postings in
+    let s = stems_at lists k in
+    let postings : after.postings ≡ ps ++ Cut e ∷ [] = ap (λ (x : HistoryParts). x.postings) cut.added.after_is in
+    let harvester : e.harvester ≡ k + 1 = ap (λ (x : EntryParts). x.harvester) cut.entry_is ∙ who_is in
+    let same : s ≡ stems_of list.items = list_at lists k list lt is in
+    let size_is : length s ≡ size list =
+    ap (λ (l : List StemParts). length l) same ∙ length-map list.items arc_value in
+    let next : e.stem ≡ get_or s rounds e.stem = ap (λ (x : EntryParts). x.stem) cut.entry_is ∙ cut.same_stem ∙ stem_is
+    ∙ ap (λ (b : Arc Stem Global). arc_value b) there ∙ sym (get_or-map arc_value list.items rounds a e.stem long)
+    ∙ ap (λ (l : List StemParts). get_or l rounds e.stem) (sym same) in
+    let mine = so_far.stems k rounds lt (omega arith) in
+    let calls : calls_of (k + 1) ps ≡ length (take rounds s) =
+    sym (length-filter (λ (x : Posting). harvester_of x == (k + 1)) ps)
+    ∙ sym (length-map (filter (λ (x : Posting). harvester_of x == (k + 1)) ps) stem_cut)
+    ∙ ap (λ (l : List (Option StemParts)). length l) mine ∙ length-map (take rounds s) Some in
+    let number : e.number ≡ rounds + 1 = ap (λ (x : EntryParts). x.number) cut.entry_is
+    ∙ ap (λ n. calls_of n ps + 1) who_is ∙ omega (arith, calls, length-take rounds s, size_is, long) in
+    let yes : (e.harvester == (k + 1)) ≡ true = grind (arith, nat_tests, harvester) in
+    let now : stems_by (k + 1) (ps ++ Cut e ∷ []) ≡ map Some (take (rounds + 1) s) = stems_with (k + 1) ps (Cut e)
+    ∙ ap (λ (b : Bool). stems_by (k + 1) ps ++ map stem_cut (cond b (Cut e ∷ []) [])) yes
+    ∙ ap (λ (l : List (Option StemParts)). l ++ Some e.stem ∷ []) mine
+    ∙ ap (λ (t : StemParts). map Some (take rounds s) ++ Some t ∷ []) next
+    ∙ sym (map-append Some (take rounds s) (get_or s rounds e.stem ∷ []))
+    ∙ ap (map Some) (sym (take_more s rounds e.stem (omega (arith, long, size_is)))) in
+    subst (HasCutRounds rounds (k + 1) lists) (sym postings) (record {
+      stems = λ j turns low turns_are. elim (cases_eq j k) [
+        | inl here ↦
+            let all : turns ≡ rounds + 1 = omega (arith, turns_are, here) in
+            rw here (now ∙ ap (λ n. map Some (take n s)) (sym all))
+        | inr other ↦
+            let no : (e.harvester == (j + 1)) ≡ false = grind (arith, nat_tests, harvester, other) in
+            stems_with (j + 1) ps (Cut e)
+            ∙ ap (λ (b : Bool). stems_by (j + 1) ps ++ map stem_cut (cond b (Cut e ∷ []) [])) no
+            ∙ append-nil (stems_by (j + 1) ps) ∙ so_far.stems j turns low (omega (arith, turns_are, other))
       ];
-      no_turn = λ j le low. cut_by_another _ _ (j + 1) ps (Cut e) (grind (arith, nat_tests, same_harvester, le))
-          (so_far.no_turn j (omega (arith, le)) low);
-      own = all_with_last _ ps (Cut e) so_far.own
-          (omega (arith, same_harvester), omega (arith, same_harvester, lt));
-      in_turn =
-          in_turn_with_last ps (Cut e) so_far.in_turn
-          (all_of_weaker _ _ (before_next rounds k (Cut e) number same_harvester) ps so_far.within);
-      within = all_with_last _ ps (Cut e) (all_of_weaker _ _ (within_next rounds k) ps so_far.within)
-          (inr (number, omega (arith, same_harvester)));
-    }
+      number = omega (arith, length_push ps (Cut e), so_far.number, cut_more rounds k lists list lt is, long);
+      own = All-push (λ (x : Posting). (0 < harvester_of x) × (harvester_of x ≤ length lists)) ps (Cut e) so_far.own
+          (omega (arith, harvester), omega (arith, harvester, lt));
+      in_turn = in_turn_with ps (Cut e) so_far.in_turn (recursion_from_All (λ x. ComesBefore x (Cut e)) ps
+          (All-weaker (IsWithinRound rounds k) (λ x. ComesBefore x (Cut e)) (before rounds k (Cut e) number harvester) ps
+          so_far.within));
+      within = All-push (IsWithinRound rounds (k + 1)) ps (Cut e)
+          (All-weaker (IsWithinRound rounds k) (IsWithinRound rounds (k + 1)) (next_turn rounds k) ps so_far.within)
+          (inr (number, omega (arith, harvester)));
+    })
 
--- the harvester at place k has no stem left
-turn_passed : (rounds k : ℕ) (lists : List (Vec (Arc Stem Global) Global)) (ps : List Posting)
-    → k < length lists → length (stems_at lists k) ≤ rounds → HasCutRounds rounds k lists ps
+-- a history that is full has no room for all, if the harvester at place k has a stem left
+pub not_all : (rounds k : ℕ) (lists : List StemList) (ps : List Posting) (list : StemList) (capacity : ℕ)
+    → k < length lists → list ≡ get_or lists k list → rounds < size list → HasCutRounds rounds k lists ps
+    → length ps ≡ capacity → capacity < stems_in_all lists
+not_all rounds k lists ps list capacity lt is long done full =
+    omega (arith, full, long, done.number, cut_low rounds (k + 1) lists, cut_more rounds k lists list lt is)
+
+-- or has none left
+pub passed : (rounds k : ℕ) (lists : List StemList) (ps : List Posting) (list : StemList)
+    → k < length lists → list ≡ get_or lists k list → size list ≤ rounds → HasCutRounds rounds k lists ps
     → HasCutRounds rounds (k + 1) lists ps
-turn_passed rounds k lists ps lt short so_far =
-    let mine = so_far.no_turn k (omega arith) lt in
-    let all : take rounds (stems_at lists k) ≡ take (rounds + 1) (stems_at lists k) =
-    take_all rounds (stems_at lists k) short ∙ sym (take_all (rounds + 1) (stems_at lists k) (omega (arith, short))) in
+passed rounds k lists ps list lt is short so_far =
+    let low : length (stems_at lists k) ≤ rounds = omega (
+      arith,
+      short,
+      length-map list.items arc_value,
+      ap (λ (l : List StemParts). length l) (list_at lists k list lt is),
+    ) in
     record {
-      had_turn = λ j low. elim (two_ways j k low) [
-        | inl less ↦ so_far.had_turn j less
-        | inr same ↦ subst (λ (i : ℕ). HasCutFirst (rounds + 1) (stems_at lists i) (i + 1) ps) (sym same) (record {
-          stems_are = mine.stems_are ∙ ap (map Some) all;
-          calls = mine.calls ∙ ap (λ (l : List StemParts). length l) all;
-        })
+      stems = λ j turns lt_j turns_are. elim (cases_eq j k) [
+        | inl here ↦ rw here (so_far.stems k rounds lt (omega arith) ∙ ap (map Some)
+            (take_all rounds (stems_at lists k) low
+            ∙ sym (take_all turns (stems_at lists k) (omega (arith, turns_are, low)))))
+        | inr other ↦ so_far.stems j turns lt_j (omega (arith, turns_are, other))
       ];
-      no_turn = λ j le low. so_far.no_turn j (omega (arith, le)) low;
+      number = so_far.number ∙ omega (arith, cut_more rounds k lists list lt is, short);
       own = so_far.own;
       in_turn = so_far.in_turn;
-      within = all_of_weaker _ _ (within_next rounds k) ps so_far.within;
+      within = All-weaker (IsWithinRound rounds k) (IsWithinRound rounds (k + 1)) (next_turn rounds k) ps so_far.within;
     }
 
 -- all had their turn
-pub round_done : (rounds : ℕ) (lists : List (Vec (Arc Stem Global) Global)) (ps : List Posting)
+pub round_done : (rounds : ℕ) (lists : List StemList) (ps : List Posting)
     → HasCutRounds rounds (length lists) lists ps → HasCutRounds (rounds + 1) 0 lists ps
 round_done rounds lists ps done = record {
-  had_turn = λ j low. absurd (omega (arith, low));
-  no_turn = λ j le lt. done.had_turn j lt;
+  stems = λ j turns lt turns_are. done.stems j turns lt (omega (arith, turns_are, lt));
+  number = done.number ∙ cut_round rounds lists;
   own = done.own;
   in_turn = done.in_turn;
-  within = all_of_weaker _ _ later ps done.within;
-} where
-  later : (x : Posting) → IsWithinRound rounds (length lists) x → IsWithinRound (rounds + 1) 0 x
-  later x within = elim within [
-    | inl less ↦ inl (omega (arith, less))
-    | inr same ↦ inl (omega (arith, same.0))
-  ]
-
--- no list is longer
-pub all_cut : (rounds : ℕ) (lists : List (Vec (Arc Stem Global) Global)) (h : HistoryParts)
-    → ((k : ℕ) → k < length lists → length (stems_at lists k) ≤ rounds) → HasCutRounds rounds 0 lists h.postings
-    → HasCutInTurn lists h
-all_cut rounds lists h long done = record {
-  stems = λ k lt. (done.no_turn k (omega arith) lt).stems_are
-      ∙ ap (map Some) (take_all rounds (stems_at lists k) (long k lt));
-  nobody_else = All-from_recursion _ h.postings done.own;
-  in_turn = done.in_turn;
+  within = All-weaker (IsWithinRound rounds (length lists)) (IsWithinRound (rounds + 1) 0)
+      (λ x within. grind (arith, within)) ps done.within;
 }
 
--- the stems of the list at a place, and the stem at a place of them
-pub list_at : (lists : List (Vec (Arc Stem Global) Global)) (k : ℕ) (list : Vec (Arc Stem Global) Global) → k < length lists
-    → list ≡ get_or lists k list → stems_at lists k ≡ stems_of list.items
-list_at [] k list lt is = absurd (omega (arith, lt))
-list_at (x ∷ xs) zero list lt is = ap (λ (v : Vec (Arc Stem Global) Global). stems_of v.items) (sym is)
-list_at (x ∷ xs) (suc k) list lt is = list_at xs k list (omega (arith, lt)) is
+-- no list is longer
+pub all_cut : (rounds : ℕ) (lists : List StemList) (h : HistoryParts) → All (λ list. size list ≤ rounds) lists
+    → HasCutRounds rounds 0 lists h.postings → HasCutInTurn lists h
+all_cut rounds lists h long done =
+    let short = All-map (λ (l : List StemParts). length l ≤ rounds) (λ (v : StemList). stems_of v.items) lists
+    (All-weaker (λ (v : StemList). size v ≤ rounds)
+    (λ (v : StemList). length (stems_of v.items) ≤ rounds)
+    (λ (v : StemList) le. omega (arith, le, length-map v.items arc_value)) lists long) in
+    record {
+      stems = λ k lt. replies (k + 1) 0 h.postings ∙ done.stems k rounds lt (omega arith)
+          ∙ ap (map Some) (take_all rounds (stems_at lists k)
+          (short k [] (omega (arith, lt, length-map lists (λ (v : StemList). stems_of v.items)))));
+      nobody_else = done.own;
+      in_turn = done.in_turn;
+    }
 
-stem_at : (list : List (Arc Stem Global)) (n : ℕ) (a : Arc Stem Global) → n < length list → a ≡ get_or list n a
-    → arc_value a ≡ get_or (stems_of list) n (arc_value a)
-stem_at list n a lt is = ap (λ (b : Arc Stem Global). arc_value b) is
-    ∙ sym (get_or-map arc_value list n a (arc_value a) lt)
-
--- the harvester at place k cuts the next stem of its list, or has none left
-pub turn_of : (rounds k : ℕ) (lists : List (Vec (Arc Stem Global) Global)) (ps : List Posting)
-    (list : Vec (Arc Stem Global) Global) (a : Arc Stem Global) (e : EntryParts)
-    → k < length lists → list ≡ get_or lists k list → rounds < length list.items → a ≡ get_or list.items rounds a
-    → HasCutRounds rounds k lists ps → e.harvester ≡ k + 1 → e.stem ≡ arc_value a → e.number ≡ calls_of (k + 1) ps + 1
-    → HasCutRounds rounds (k + 1) lists (ps ++ Cut e ∷ [])
-turn_of rounds k lists ps list a e lt is long there so_far same_harvester same_stem number_is_next =
-    let same = list_at lists k list lt is in
-    turn_taken rounds k lists ps (arc_value a) e lt
-    (subst (λ (l : List StemParts). rounds < length l) (sym same)
-    (omega (arith, long, length-map list.items arc_value)))
-    (subst (λ (l : List StemParts). arc_value a ≡ get_or l rounds (arc_value a)) (sym same)
-    (stem_at list.items rounds a long there))
-    so_far same_harvester same_stem number_is_next
-
-pub no_turn_of : (rounds k : ℕ) (lists : List (Vec (Arc Stem Global) Global)) (ps : List Posting)
-    (list : Vec (Arc Stem Global) Global)
-    → k < length lists → list ≡ get_or lists k list → length list.items ≤ rounds → HasCutRounds rounds k lists ps
-    → HasCutRounds rounds (k + 1) lists ps
-no_turn_of rounds k lists ps list lt is short so_far =
-    turn_passed rounds k lists ps lt
-    (subst (λ (l : List StemParts). length l ≤ rounds) (sym (list_at lists k list lt is))
-    (omega (arith, short, length-map list.items arc_value))) so_far
-
-pub longer : (lists : List (Vec (Arc Stem Global) Global)) (k most more : ℕ) (list : Vec (Arc Stem Global) Global)
-    → k < length lists → list ≡ get_or lists k list → most ≤ more → length list.items ≤ more
-    → ((j : ℕ) → j < k → length (stems_at lists j) ≤ most) → (j : ℕ) → j < k + 1 → length (stems_at lists j) ≤ more
-longer lists k most more list lt is le long so_far j low = elim (two_ways j k low) [
-  | inl less ↦ omega (arith, so_far j less, le)
-  | inr same ↦ subst (λ (i : ℕ). length (stems_at lists i) ≤ more) (sym same)
-      (subst (λ (l : List StemParts). length l ≤ more) (sym (list_at lists k list lt is))
-      (omega (arith, long, length-map list.items arc_value)))
-]
+-- one list more
+pub longer : (lists : List StemList) (k most more : ℕ) (list : StemList) → k < length lists → list ≡ get_or lists k list
+    → All (λ l. size l ≤ most) (take k lists) → most ≤ more → size list ≤ more
+    → All (λ l. size l ≤ more) (take (k + 1) lists)
+longer lists k most more list lt is so_far le here =
+    let last : size (get_or lists k list) ≤ more = omega (arith, ap size is, here) in
+    All-more (λ (l : StemList). size l ≤ more) lists k list lt
+    (All-weaker (λ (l : StemList). size l ≤ most) (λ (l : StemList). size l ≤ more) (λ l low. omega (arith, low, le))
+    (take k lists) so_far) last

@@ -1,7 +1,6 @@
-//! From lists of stems to the book in which they were cut by turns.
-ghost use Rattle.std.specs.Prelude.{◌≡◌, ℕ, ◌+◌, ◌<◌, ◌≤◌, length, IfOk, IfErr, OnOk};
+//! From lists of stems to the book in which they were cut in turn.
+ghost use Rattle.std.specs.Prelude.{◌≡◌, ◌+◌, ◌<◌, ◌≤◌, length, All, IfOk, IfErr, OnOk};
 ghost use Rattle.buck_rule.specs.Stored.{Answers};
-ghost use Rattle.buck_book.specs.Replies.{stems_at};
 ghost use Rattle.buck_book.specs.declared.ready.CutFault.TheVariants.{Full};
 ghost use Rattle.buck_book.specs.Pricing.{AreSheetsBy};
 ghost use Rattle.buck_turn.specs.Turn.{HasCutInTurn, stems_in_all};
@@ -15,7 +14,7 @@ use buck_stem::Stem;
 use std::alloc::Global;
 use std::sync::Arc;
 
-/// The turn of the harvester whose list stands at a place: it cuts the stem at the round's place of its list, where
+/// The turn of the harvester whose list stands at a place: it cuts the stem at the round's place of its list, if
 /// that is so long.
 fn turn<F: Fn(&Standing) -> u64 + Drop>(
     alloc: Global,
@@ -64,20 +63,20 @@ fn cut_round<F: Fn(&Standing) -> u64 + Drop>(
 
 /// How long the longest list is.
 fn longest(lists: &[Vec<Arc<Stem>>]) -> usize
-    ensures { (k : ℕ) → k < length lists.now → length (stems_at lists.now k) ≤ result }
+    ensures { All (λ list. length list.items ≤ result) lists.now }
 {
     let mut most = 0usize;
-    for k in 0..lists.len() {
-        most = most.max(lists[k].len());
+    for list in lists {
+        most = most.max(list.len());
     }
     most
 }
 
 /// Cuts lists of stems in turn: in each round harvester k cuts the next stem of the k-th list, under the sheet that is
-/// then in force; who has none left is passed over. Two runs over the same lists give the same history, and nothing
-/// waits. 1 to 64 lists are a fleet; none gives a book with no posting. The prices of each sheet after the first are
-/// the rule's answers. Refused as `Full` where there are more stems than 1,000,000, and there alone, and as `Memory`
-/// where a growth was refused.
+/// then in force; a harvester with none left is skipped. Two runs over the same lists give the same history, and
+/// nothing waits. 1 to 64 lists are a fleet; none gives a book with no posting. The prices of each sheet after the
+/// first are the rule's answers. Refused as `Full` exactly if there are more stems than 1,000,000, and as `Memory` if
+/// an allocation failed.
 pub fn cut_in_turn<F: Fn(&Standing) -> u64 + Drop>(
     alloc: Global,
     instruction: Arc<Instruction>,

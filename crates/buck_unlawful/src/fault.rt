@@ -8,16 +8,16 @@ use buck_words::{Apart, ClassText, Grouped, class_text};
 use std::alloc::Global;
 use std::fmt;
 
-/// The posting that a fault is of, where it is of one, and what is wrong with it.
+/// The posting that a fault is of, if it is of one, and what is wrong with it.
 fn wrong_posting(fault: &ReplayFault) -> Option<(usize, &'static str)> {
     match fault {
         ReplayFault::Numbering { at } => Some((
             *at,
             "its number is not the harvester&#8217;s next",
         )),
-        ReplayFault::Version { at } => Some((*at, "it was not planned under the prices in force")),
-        ReplayFault::Cutting { at } => Some((*at, "its logs may not be cut from the stem")),
-        ReplayFault::Worth { at } => Some((*at, "its worth is not what its logs are worth")),
+        ReplayFault::Version { at } => Some((*at, "it was not planned at the prices in force")),
+        ReplayFault::Cutting { at } => Some((*at, "its logs can&#8217;t be cut from the stem")),
+        ReplayFault::Worth { at } => Some((*at, "its worth is not the worth of its logs")),
         ReplayFault::Outvalued { at } => Some((*at, "another cutting of the stem is worth more")),
         ReplayFault::Targets { at } => Some((*at, "its targets are not valid")),
         ReplayFault::Sheet { .. } | ReplayFault::Price { .. } | ReplayFault::Memory => None,
@@ -88,10 +88,7 @@ fn write_sentence(
             if let Some(found) = class_at(instruction, *class) {
                 write!(out, "{}, {}", Apart(found.assortment.name()), found.class)?;
             }
-            write!(
-                out,
-                ", may not be what it is, given the targets and what was cut before."
-            )?;
+            write!(out, ", is out of its bounds after what was cut before.")?;
         }
         _ => {
             if let Some((at, why)) = wrong_posting(fault) {
@@ -111,7 +108,7 @@ struct Which {
     of: usize,
 }
 
-/// Writes that a journal isn't lawful, and which one, where there are several.
+/// Writes that a journal isn't lawful, and which one if there are several.
 fn write_heading(out: &mut String, which: Which) -> Result<(), Memory> {
     let Which { number, of } = which;
     if of > 1 {
@@ -148,8 +145,8 @@ fn write_line(out: &mut String, which: Which, fault: &ReplayFault) -> Result<(),
     Ok(())
 }
 
-/// The page of the first journal that isn't lawful, given its fault, which is none of memory, the names of all files,
-/// and the place of the journal among its kind. It shows no figure. Refused as `Memory` alone.
+/// Returns the page of the first journal that isn't lawful, given its fault, which is not `Memory`, the names of all
+/// files, and the index of the journal among all, from 0. It shows no figure. Refused as `Memory` alone.
 pub fn fault_page(
     alloc: Global,
     instruction: &Instruction,
@@ -177,7 +174,7 @@ pub fn fault_page(
     write_sentence(&mut out, instruction, postings, fault)?;
     write!(
         &mut out,
-        "</b> It is the first fault in the order of the postings; nothing after it was looked at, and no figure of \
+        "</b> This is the first fault in the order of the postings; nothing after it was checked, and no figure of \
          this journal is shown. <code>"
     )?;
     write_line(&mut out, which, fault)?;

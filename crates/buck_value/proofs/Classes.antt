@@ -1,5 +1,5 @@
 -- Which logs an assortment allows, as the code tests it, and their classes.
-use Rattle.std.proofs.Common.{◌≡◌, ℕ, ◌+◌, ◌*◌, ◌/◌, ◌%◌, add-mul, ◌<◌, ◌≤◌, ◌==◌, List, Contains, Option, Some, None, IsTrue, true, false, true≢false, length, get_or, slice_get, unwrap_or, position, refl, sym, ◌∙◌, ap, subst, inl, inr, arith, eqb-true, eq-eqb, cond, nat_lt, nat_le}
+use Rattle.std.proofs.Common.{◌≡◌, ℕ, ◌+◌, ◌*◌, ◌/◌, ◌%◌, add-mul, ◌<◌, ◌≤◌, ◌==◌, List, Contains, Option, Some, None, IsTrue, true, false, true≢false, length, get_or, slice_get, unwrap_or, position, refl, sym, ◌∙◌, ap, subst, inl, inr, arith, eqb-true, eq-eqb, cond, nat_lt}
 use Rattle.std.proofs.lemmas.Nat.{div-add-mod'}
 use Rattle.std.proofs.Math.Nat.{mul-mod_left}
 use Rattle.std.proofs.lemmas.Option.{none-some, slice_get_within, get_or_from_slice_get}
@@ -7,7 +7,7 @@ use Rattle.std.proofs.lemmas.Bool.{cases_lt}
 use Rattle.std.proofs.lemmas.Bool.Decides.{nat_tests}
 use Rattle.std.proofs.lemmas.List.Quantifiers.{position-Some}
 use Rattle.std.proofs.lemmas.List.Elements.{All-get_or, All-contains}
-use Rattle.std.proofs.lemmas.List.Sums.{fails_before_first, count_by-le-length}
+use Rattle.std.proofs.lemmas.List.Sums.{fails_before_first}
 use Rattle.std.specs.List.{position_or_len}
 use Rattle.buck_apt.specs.Instruction.{InstructionParts, AssortmentParts, IsAssortment, IsInstruction, IsClass, IsOnModule}
 use Rattle.buck_apt.specs.declared.class.Class.{Class}
@@ -15,8 +15,8 @@ use Rattle.buck_stem.specs.Stem.{StemParts, stem_length, HasGradesOf, grade_at}
 use Rattle.buck_value.specs.declared.log.Log.{Log}
 use Rattle.buck_value.specs.Sheet.{SheetParts, price_of}
 use Rattle.buck_value.specs.Volume.{volume, worth_at}
-use Rattle.buck_value.proofs.Rows.{row_counted}
-use Rattle.buck_value.specs.Allowed.{IsAllowed, Allows, IsBought, worth_of, kind_in, class_in, class_of, top_diameter, row_at, column_of, top_of}
+use Rattle.buck_value.proofs.Rows.{row_within}
+use Rattle.buck_value.specs.Allowed.{IsAllowed, Allows, IsBought, worth_of, kind_in, class_in, class_of, top_diameter, column_of, top_of}
 
 pub column_some : (xs : List ℕ) (l i : ℕ) → position (λ x. x == l) xs ≡ Some i → (i < length xs) × Contains xs l
 column_some xs l i e =
@@ -102,10 +102,6 @@ valid_of i stem g v a =
     let lt : g.assortment < length i.assortments = slice_get_within i.assortments g.assortment a.assortment a.exists in
     subst IsAssortment (get_or_from_slice_get i.assortments g.assortment a.assortment a.assortment a.exists)
     (All-get_or IsAssortment i.assortments g.assortment a.assortment lt v.assortments_valid)
-
--- a row of an assortment
-pub row_within : (a : AssortmentParts) (d : ℕ) → IsAssortment a → row_at a d < length a.diameters
-row_within a d v = omega (arith, row_counted a d v, count_by-le-length (λ limit. nat_le limit d) a.diameters, v.rows)
 
 -- the class of an allowed log is one of the instruction's
 pub class_is_class : (i : InstructionParts) (stem : StemParts) (g : Log) → IsInstruction i → IsAllowed i stem g

@@ -1,17 +1,15 @@
 -- Base prices, class by class, and prices within their spans.
-use Rattle.std.proofs.Common.{◌≡◌, ℕ, ◌+◌, ◌-◌, ◌*◌, ◌<◌, ◌≤◌, inl, inr, List, [], ◌∷◌, ◌++◌, length, take, get_or, slice_index, sum_by, All, length-append, take_all, refl, sym, ◌∙◌, ap, subst, arith, mul-le-mul_left}
+use Rattle.std.proofs.Common.{◌↔◌, ◌≡◌, ℕ, ◌+◌, ◌-◌, ◌*◌, ◌<◌, ◌≤◌, inl, inr, List, [], ◌∷◌, length, take, get_or, slice_index, sum_by, All, take_all, refl, sym, ◌∙◌, ap, subst, arith, mul-le-mul_left}
 use Rattle.std.specs.List.{flat_map, AllByRecursion}
 use Rattle.std.proofs.lemmas.List.Concat.{get_or-flat_map, length-flat_map}
 use Rattle.std.proofs.lemmas.List.Elements.{All-append, recursion_from_All}
-use Rattle.std.proofs.lemmas.List.{get_or_past, take_more, flat_map_more}
+use Rattle.std.proofs.lemmas.List.{get_or_past}
 use Rattle.std.proofs.lemmas.List.Folds.{length-flat_map-take}
 use Rattle.std.proofs.lemmas.List.Sums.{sum_by-cons}
 use Rattle.std.proofs.lemmas.Bool.{cases_lt}
 use Rattle.std.proofs.lemmas.Grind.{get_or_default_zero}
 use Rattle.buck_apt.specs.Instruction.{InstructionParts, AssortmentParts, IsInstruction, IsAssortment, classes, classes_of}
-use Rattle.buck_value.specs.Sheet.{SheetParts, IsSheet, base_prices, span, IsInSpan, IsPriceAt, IsSheetFault, sheet_of}
-use Rattle.buck_value.specs.inner.Sheet.{IsFirstOutside}
-use Rattle.buck_value.specs.declared.fault.SheetFault.TheVariants.{Price}
+use Rattle.buck_value.specs.Sheet.{SheetParts, IsSheet, base_prices, span, IsInSpan, IsPriceAt, sheet_of}
 
 sum-same : (as_ : List AssortmentParts) → AllByRecursion IsAssortment as_
     → sum_by (λ a. length a.prices) as_ ≡ sum_by classes_of as_
@@ -87,56 +85,10 @@ module _ (i : InstructionParts) (prices : List ℕ) (n before : ℕ) (a : Assort
         length-flat_map-take (λ x. x.prices) i.assortments n a lt in
         omega (arith, length-base_prices i valid, ap (λ x. length x.prices) is)
 
-    pub place_more : before + length a.prices ≡ length (flat_map (λ x. x.prices) (take (n + 1) i.assortments))
-    place_more =
-        let more : take (n + 1) i.assortments ≡ take n i.assortments ++ a ∷ [] =
-        take_more i.assortments n a lt ∙ ap (λ x. take n i.assortments ++ x ∷ []) (sym is) in
-        let joined : flat_map (λ x. x.prices) (take n i.assortments) ++ a.prices
-        ≡ flat_map (λ x. x.prices) (take n i.assortments ++ a ∷ []) =
-        flat_map_more (λ x. x.prices) [] (take n i.assortments) a in
-        rw (more, ← joined, length-append, ← place) refl
-
-    pub inside_more : ((k : ℕ) → k < before → IsPriceAt i prices k)
-        → ((k : ℕ) → k < length a.prices → IsInSpan i.limit (slice_index a.prices k) (slice_index prices (before + k)))
-        → (k : ℕ) → k < before + length a.prices → IsPriceAt i prices k
-    inside_more old new k lt_k = elim (cases_lt k before) [
-      | inl early ↦ old k early
-      | inr late ↦
-          let j : ℕ = k - before in
-          let in_a : j < length a.prices = omega arith in
-          let at : before + j ≡ k = omega arith in
-          subst (λ x. IsPriceAt i prices x) at
-          (subst (λ b. IsInSpan i.limit b (slice_index prices (before + j)))
-          (sym (base_at i n j before a lt is place in_a)) (new j in_a))
-    ]
-
-    -- a price outside its span is the least such one
-    pub fault_at : length prices ≡ classes i
-        → ((k : ℕ) → k < before → IsPriceAt i prices k)
-        → (at : ℕ) → IsFirstOutside i.limit a.prices prices before at
-        → IsSheetFault i prices (Price (before + at))
-    fault_at all old at f = (
-      all,
-      omega (arith, f.within, room),
-      λ inside. f.outside
-          (subst (λ b. IsInSpan i.limit b (slice_index prices (before + at)))
-          (base_at i n at before a lt is place f.within) inside),
-      fault_first old at f,
-    )
-      where
-        fault_first : ((k : ℕ) → k < before → IsPriceAt i prices k) → (at : ℕ)
-            → IsFirstOutside i.limit a.prices prices before at → (k : ℕ) → k < before + at → IsPriceAt i prices k
-        fault_first old at f k lt_k = elim (cases_lt k before) [
-          | inl early ↦ old k early
-          | inr late ↦
-              let j : ℕ = k - before in
-              let done : j < at = omega arith in
-              let in_a : j < length a.prices = omega (arith, f.within) in
-              let here : before + j ≡ k = omega arith in
-              subst (λ x. IsPriceAt i prices x) here
-              (subst (λ b. IsInSpan i.limit b (slice_index prices (before + j)))
-              (sym (base_at i n j before a lt is place in_a)) (f.first j done))
-        ]
+    -- a price lies within its span if it lies within that of the assortment's base price
+    pub price_here : (j : ℕ) → j < length a.prices
+        → IsInSpan i.limit (slice_index a.prices j) (slice_index prices (before + j)) ↔ IsPriceAt i prices (before + j)
+    price_here j in_a = rw (base_at i n j before a lt is place in_a) (λ h. h, λ h. h)
 
 -- all assortments are done
 pub all_inside : (i : InstructionParts) (prices : List ℕ) (n before : ℕ) → IsInstruction i

@@ -1,4 +1,4 @@
--- Where each trim is 0, a log is allowed as if there were none.
+-- If each trim is 0, a log is allowed as if there were none.
 use Rattle.std.proofs.Common.{◌≡◌, ◌<◌, ℕ, length, slice_get, Some, subst, arith}
 use Rattle.std.proofs.lemmas.Option.{slice_get_within, get_or_from_slice_get}
 use Rattle.std.proofs.lemmas.List.Elements.{All-get_or}

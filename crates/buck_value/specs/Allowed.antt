@@ -58,7 +58,7 @@ pub record IsBought (a : AssortmentParts) (column d : ℕ) : Type 0 where
   pub thin_enough : d < a.upper
   pub priced : slice_index a.prices (row_at a d * length a.lengths + column) ≢ 0
 
--- an assortment allows a log, where logs start at the multiples of `step`
+-- an assortment allows a log, if logs start at the multiples of `step`
 pub record Allows (step : ℕ) (a : AssortmentParts) (stem : StemParts) (g : Log) : Type 0 where
   pub species : a.species ≡ stem.species
   pub on_module : g.start % step ≡ 0

@@ -4,4 +4,3 @@ pub mod Allowed
 pub mod Prepared
 pub mod Wood
 pub mod Untrimmed
-pub mod inner

@@ -1,4 +1,4 @@
--- Logs as if no assortment had a trim allowance, for the law that nothing else changes where each trim is 0. No other
+-- Logs as if no assortment had a trim allowance, for the law that nothing else changes if each trim is 0. No other
 -- contract leads here.
 use Rattle.std.specs.Prelude.{◌≡◌, ℕ, ◌%◌, ◌≤◌, All, Contains, slice_get, Some}
 use Rattle.buck_apt.specs.Instruction.{InstructionParts, AssortmentParts}

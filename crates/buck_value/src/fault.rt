@@ -1,7 +1,7 @@
 //! Why prices make no sheet.
 use thiserror::Error;
 
-/// What is wrong with the prices of a sheet.
+/// Why the prices of a sheet are refused.
 #[derive(Clone, Copy, Debug, PartialEq, Eq, Error)]
 pub enum SheetFault {
     /// There isn't one price for each class.

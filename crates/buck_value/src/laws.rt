@@ -44,7 +44,7 @@ pub fn row_is_the_last()
         → IsAssortment a → slice_index a.diameters 0 ≤ d → IsRow a d (row_at a d) }
 {}
 
-/// Where no assortment has a trim, the logs that are allowed are those that would be without any trim.
+/// If no assortment has a trim, the logs that are allowed are those that would be without any trim.
 #[tactic(auto, using(crate::proofs::Untrimmed::without_trim, crate::proofs::Untrimmed::with_trim))]
 pub fn no_trim_allows_the_same()
     ensures { (i : InstructionParts) (stem : StemParts) (g : Log)

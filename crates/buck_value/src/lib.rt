@@ -14,7 +14,7 @@ pub use fault::SheetFault;
 pub use log::Log;
 pub use prepared::Prepared;
 pub use sheet::{HIGHEST_PRICE, Sheet};
-pub use wood::{Wood, takes};
+pub use wood::takes;
 pub use worth::{
     Valuation, bought_row, class_of, column_of, log_valuation, log_worth, row_of,
     valuation_of_allowed, volume_of, worth_if_allowed, worth_of_piece,

@@ -4,7 +4,7 @@
 /// [`class_of`](crate::class_of).
 #[derive(Clone, Copy, Debug, PartialEq, Eq)]
 pub struct Log {
-    /// Where it starts, in mm from the butt.
+    /// Start of the log, in mm from the butt.
     pub start: u32,
     /// How long it is, in mm, trim excluded.
     pub length: u32,

@@ -117,7 +117,7 @@ impl<'s, 't> Prepared<'s, 't> {
         }
     }
 
-    /// The class of the log of point `i`, an assortment and a column, or `None` where it isn't allowed.
+    /// The class of the log of point `i`, an assortment and a column, or `None` if it isn't allowed.
     pub fn class(&self, i: usize, assortment: usize, column: usize) -> Option<Class>
         requires i { i < points_of self.now }
         requires assortment { assortment < length self.now.sheet.instruction.assortments }
@@ -130,11 +130,12 @@ impl<'s, 't> Prepared<'s, 't> {
             (IsAllowed self.now.sheet.instruction self.now.stem (log_at self.now i assortment column) → ⊥) }
     {
         let log = self.log(i, assortment, column);
+        // The code that tests a log of any stem: a second test over these tables could differ from it.
         Some(measure(self.sheet, self.stem, Some(&self.profile), &log)?.class)
     }
 
-    /// What the log of point `i`, an assortment and a column is worth, in millionths of the price unit, or `None` where
-    /// it isn't allowed.
+    /// Gives the worth of the log of point `i`, an assortment and a column, in millionths of the price unit, or `None`
+    /// if it isn't allowed.
     pub fn worth(&self, i: usize, assortment: usize, column: usize) -> Option<u64>
         requires i { i < points_of self.now }
         requires assortment { assortment < length self.now.sheet.instruction.assortments }

@@ -3,7 +3,6 @@ ghost use Rattle.std.specs.Prelude.{◌≡◌, ℕ, ◌+◌, ◌<◌, ◌≤◌,
 ghost use Rattle.std.specs.List.{flat_map};
 ghost use Rattle.buck_apt.specs.Instruction.{IsInstruction, IsClass, classes};
 ghost use Rattle.buck_value.specs.Sheet.{IsSheet, IsInSpan, IsPriceAt, IsSheetFault, base_prices, sheet_of, price_of};
-ghost use Rattle.buck_value.specs.inner.Sheet.{AreInSpanAfter, IsFirstOutside};
 
 use crate::fault::SheetFault;
 use buck_apt::{Assortment, Class, Instruction};
@@ -57,7 +56,7 @@ fn is_in_span(limit: u32, base: u32, price: u32) -> bool
 }
 
 impl Sheet {
-    /// The sheet of version 0: each class has its base price. `Memory` where no list of the prices could be made.
+    /// The sheet of version 0: each class has its base price. `Memory` if no list of the prices could be made.
     pub fn base(alloc: Global, instruction: Arc<Instruction>) -> Result<Sheet, Memory>
         ensures { IfOk result (λ s.
             s ≡ sheet_of 0 instruction.value (base_prices instruction.value)) }
@@ -70,8 +69,8 @@ impl Sheet {
         })
     }
 
-    /// The same sheet once more, for a caller that keeps one: with prices of its own, and the instruction shared.
-    /// Refused as `Memory` alone.
+    /// Copies the sheet, for a caller that keeps one: with prices of its own, and the instruction shared. Refused as
+    /// `Memory` alone.
     pub fn copy(&self, alloc: Global) -> Result<Sheet, Memory>
         ensures { IfOk result (λ s. s ≡ self.now) }
     {
@@ -83,9 +82,9 @@ impl Sheet {
         })
     }
 
-    /// The sheet of these prices, one for each class, assortment by assortment and row by row. Refused as `Count` where
+    /// The sheet of these prices, one for each class, assortment by assortment and row by row. Refused as `Count` if
     /// there are more or fewer, else as `Price` with the least place of a price outside its span, both ends of which
-    /// are inside. It takes no memory; the prices are dropped where they are refused.
+    /// are inside. It takes no memory; the prices are dropped if they are refused.
     pub fn with_prices(
         instruction: Arc<Instruction>,
         version: u32,
@@ -151,24 +150,7 @@ impl Sheet {
     }
 }
 
-/// The least place among some base prices at which the price, after those of the classes before, is outside its
-/// span.
-fn first_outside_of(limit: u32, bases: &[u32], prices: &[u32], before: usize) -> Option<usize>
-    requires limit { limit ≤ 1000 }
-    requires bases { All (λ p. p ≤ 10000000) bases.now }
-    requires room { before + length bases.now ≤ length prices.now }
-    ensures found { IfSome result (λ at. IsFirstOutside limit bases.now prices.now before at) }
-    ensures none { IfNone result (AreInSpanAfter limit bases.now prices.now before) }
-{
-    for i in 0..bases.len() {
-        if !is_in_span(limit, bases[i], prices[before + i]) {
-            return Some(i);
-        }
-    }
-    None
-}
-
-/// The least place of a price outside its span, where there is one price for each class.
+/// The least place of a price outside its span, if there is one price for each class.
 fn first_outside(instruction: &Instruction, prices: &[u32]) -> Option<usize>
     requires { length prices.now ≡ classes instruction.now }
     ensures found { IfSome result (λ at.
@@ -176,13 +158,14 @@ fn first_outside(instruction: &Instruction, prices: &[u32]) -> Option<usize>
     ensures none { IfNone result (EachIndex prices.now (IsPriceAt instruction.now prices.now)) }
 {
     let limit = instruction.limit();
-    let mut before = 0;
+    let mut at = 0;
     for assortment in instruction.assortments() {
-        let bases = assortment.prices();
-        if let Some(at) = first_outside_of(limit, bases, prices, before) {
-            return Some(before + at);
+        for base in assortment.prices() {
+            if !is_in_span(limit, *base, prices[at]) {
+                return Some(at);
+            }
+            at += 1;
         }
-        before += bases.len();
     }
     None
 }

@@ -1,6 +1,6 @@
 //! Which logs are allowed, their classes and their worth.
 //!
-//! A log is allowed where its assortment is there and is of the stem's species, it starts at a multiple of the module,
+//! A log is allowed if its assortment is there and is of the stem's species, it starts at a multiple of the module,
 //! its length is one of the assortment's, it ends within the stem together with the assortment's trim allowance, each
 //! grade along its length is one of the assortment's, its
 //! top diameter is at or above the first lower limit and below the upper diameter, and the base price of its class
@@ -45,22 +45,22 @@ pub fn worth_of_piece(kind: u8, price: u32, cubic: u64) -> u64
     }
 }
 
-/// The row, from 0, of a top diameter in mm: the limits rise, so it is how many are at most it, less one.
-#[tactic(auto, using(crate::proofs::Rows::row_counted))]
+/// The row, from 0, of a top diameter in mm: the last whose lower limit is at most it, or the first.
+#[tactic(auto, using(crate::proofs::Rows::row_found))]
 pub fn row_of(assortment: &Assortment, diameter: u32) -> usize
     ensures row { result ≡ row_at assortment.now diameter }
     ensures within { result < length assortment.now.diameters }
 {
-    assortment
-        .diameters()
-        .iter()
-        .filter(|limit| **limit <= diameter)
-        .count()
-        .saturating_sub(1)
+    let limits = assortment.diameters();
+    let mut row = limits.len() - 1;
+    while row > 0 && diameter < limits[row] {
+        row -= 1;
+    }
+    row
 }
 
 /// The row, from 0, in which an assortment buys logs of a column with this top diameter in mm, or `None` if it is below
-/// its first lower limit or not below its upper diameter, or where the base price of their class is 0.
+/// its first lower limit or not below its upper diameter, or if the base price of their class is 0.
 pub fn bought_row(assortment: &Assortment, column: usize, diameter: u32) -> Option<usize>
     requires { column < length assortment.now.lengths }
     ensures row { IfSome result (λ row. row ≡ row_at assortment.now diameter) }
@@ -69,6 +69,7 @@ pub fn bought_row(assortment: &Assortment, column: usize, diameter: u32) -> Opti
     ensures none { IfNone result (IsBought assortment.now column diameter → ⊥) }
     ensures valid { IsAssortment assortment.now }
 {
+    // The test of a log and the planner's price lists both ask here, so they can't differ.
     if diameter < assortment.diameters()[0] || assortment.upper() <= diameter {
         return None;
     }
@@ -104,7 +105,7 @@ fn top_of(stem: &Stem, log: &Log) -> u32
     stem.diameter_at(end_within(stem, log))
 }
 
-/// The diameter where the length of a log ends, from the stem's tables for a module where there are any.
+/// The diameter where the length of a log ends, from the stem's tables for a module if there are any.
 fn top_in(step: u32, stem: &Stem, tables: Option<&Profile<'_>>, log: &Log) -> u32
     requires step { 0 < step }
     requires tables { IfSome tables (λ q. q.now ≡ profile_of stem.now step) }
@@ -118,7 +119,7 @@ fn top_in(step: u32, stem: &Stem, tables: Option<&Profile<'_>>, log: &Log) -> u3
     }
 }
 
-/// Whether each grade along the length of a log is one of these, from the stem's tables for a module where there are
+/// Whether each grade along the length of a log is one of these, from the stem's tables for a module if there are
 /// any.
 fn has_grades_in(
     step: u32,
@@ -153,8 +154,8 @@ pub(crate) struct Measured {
     top: u32,
 }
 
-/// The class and the top diameter of a log of an assortment, or `None` where that doesn't allow it. They are read from
-/// the stem's tables where there are any.
+/// The class and the top diameter of a log of an assortment, or `None` if that doesn't allow it. They are read from
+/// the stem's tables if there are any.
 fn measure_in(
     step: u32,
     assortment: &Assortment,
@@ -203,8 +204,8 @@ fn measure_in(
     Some(Measured { class, top })
 }
 
-/// The class and the top diameter of a log, or `None` where it isn't allowed, from the stem's tables for the sheet's
-/// module where there are any.
+/// The class and the top diameter of a log, or `None` if it isn't allowed, from the stem's tables for the sheet's
+/// module if there are any.
 pub(crate) fn measure(
     sheet: &Sheet,
     stem: &Stem,
@@ -229,7 +230,7 @@ pub(crate) fn measure(
 }
 
 /// The class of the log that starts `start` mm from the butt, is `length` mm long and of the assortment at this place,
-/// counted from 0; `None` where that log isn't allowed. The base prices have a part in it, the prices in force have
+/// counted from 0; `None` if that log isn't allowed. The base prices have a part in it, the prices in force have
 /// none. Any numbers may be asked for; it takes no memory.
 pub fn class_of(
     sheet: &Sheet,
@@ -281,8 +282,8 @@ pub struct Valuation {
     pub worth: u64,
 }
 
-/// The class, the top diameter and the worth of a log, or `None` where it isn't allowed, from the stem's tables for the
-/// sheet's module where there are any.
+/// The class, the top diameter and the worth of a log, or `None` if it isn't allowed, from the stem's tables for the
+/// sheet's module if there are any.
 pub(crate) fn valuation_by(
     sheet: &Sheet,
     stem: &Stem,
@@ -308,7 +309,7 @@ pub(crate) fn valuation_by(
     }
 }
 
-/// The class, the top diameter and the worth of a log under a sheet, or `None` where it isn't allowed; see
+/// The class, the top diameter and the worth of a log under a sheet, or `None` if it isn't allowed; see
 /// [`class_of`] and [`log_worth`]. Any log may be asked for. It takes no memory.
 pub fn log_valuation(sheet: &Sheet, stem: &Stem, log: &Log) -> Option<Valuation>
     ensures allowed { IfSome result (λ _. IsAllowed sheet.now.instruction stem.now log.now) }
@@ -322,7 +323,7 @@ pub fn log_valuation(sheet: &Sheet, stem: &Stem, log: &Log) -> Option<Valuation>
     valuation_by(sheet, stem, None, log)
 }
 
-/// What a log is worth under a sheet, in millionths of the price unit, or `None` where it isn't allowed; see
+/// Gives the worth of a log under a sheet, in millionths of the price unit, or `None` if it isn't allowed; see
 /// [`log_worth`]. Any log may be asked for.
 pub fn worth_if_allowed(sheet: &Sheet, stem: &Stem, log: &Log) -> Option<u64>
     ensures allowed { IfSome result (λ _. IsAllowed sheet.now.instruction stem.now log.now) }
@@ -358,8 +359,8 @@ pub fn valuation_of_allowed(sheet: &Sheet, stem: &Stem, log: &Log) -> Valuation
     Valuation { class, top, worth }
 }
 
-/// What an allowed log is worth under a sheet, in millionths of the price unit: the price in force of its class, times
-/// its volume in cm³ where the price is per cubic metre, times 1,000,000 where it is per piece. The volume is that of
+/// Gives the worth of an allowed log under a sheet, in millionths of the price unit: the price in force of its class,
+/// times its volume in cm³ if the price is per cubic metre, times 1,000,000 if it is per piece. The volume is that of
 /// the cylinder of its top diameter and its length, rounded down. It takes no memory.
 pub fn log_worth(sheet: &Sheet, stem: &Stem, log: &Log) -> u64
     requires { IsAllowed sheet.now.instruction stem.now log.now }

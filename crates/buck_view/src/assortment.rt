@@ -64,7 +64,7 @@ fn write_drawings(
     write_matrices(out, figures, at)
 }
 
-/// Writes the section of the assortment at a place: one line, where it has no target.
+/// Writes the section of the assortment at a place: one line if it has no target.
 pub(crate) fn write_assortment(
     alloc: Global,
     out: &mut String,

@@ -48,7 +48,7 @@ fn write_gain(out: &mut String, degree: Option<u32>, unsteered: Option<u32>) -> 
     )?)
 }
 
-/// Writes the degrees of the assortment at a place, behind the head of its row.
+/// Writes the degrees of the assortment at a place, after the head of its row.
 fn write_degrees_of(out: &mut String, figures: &Figures<'_>, at: usize) -> Result<(), Memory>
     requires { at < length figures.now.instruction.now.assortments }
 {
@@ -79,17 +79,16 @@ fn write_degrees_of(out: &mut String, figures: &Figures<'_>, at: usize) -> Resul
 pub(crate) fn write_degrees(out: &mut String, figures: &Figures<'_>) -> Result<(), Memory> {
     write!(
         out,
-        "\n<section id=\"degrees\"><h2>Degree of apportionment</h2><p class=\"lead\">How far the logs have the wanted \
-         proportions: 100 where they have them exactly, 0 where nothing that was cut was wanted; the stroke in a bar \
-         marks the degree unsteered. The degree of diameters looks at the diameter rows alone; what it is short of is \
-         mostly a matter of the stand. The degree of lengths looks at the lengths within each row, and is a matter of \
-         bucking.</p><div class=\"scroll\"><table class=\"list\"><thead><tr class=\"groups\"><td></td><td \
-         class=\"wide\"></td><th scope=\"colgroup\" colspan=\"3\">Degree, %</th><th scope=\"colgroup\" \
-         colspan=\"2\">of diameters, %</th><th scope=\"colgroup\" colspan=\"2\">of lengths, %</th></tr><tr><th \
-         scope=\"col\">Assortment</th><td class=\"wide\"></td><th scope=\"col\" class=first>as cut</th><th \
-         scope=\"col\">unsteered</th><th scope=\"col\">gained</th><th scope=\"col\" class=first>as cut</th><th \
-         scope=\"col\">unsteered</th><th scope=\"col\" class=first>as cut</th><th \
-         scope=\"col\">unsteered</th></tr></thead><tbody>"
+        "\n<section id=\"degrees\"><h2>Degree of apportionment</h2><p class=\"lead\">How close the logs came to the \
+         wanted proportions: 100 if they have them exactly, 0 if nothing that was cut was wanted. The tick in a bar \
+         marks the degree unsteered. The degree of diameters compares the diameter rows alone, and depends mostly on \
+         the stand. The degree of lengths compares the lengths within each row, and depends on bucking.</p><div \
+         class=\"scroll\"><table class=\"list\"><thead><tr class=\"groups\"><td></td><td class=\"wide\"></td><th \
+         scope=\"colgroup\" colspan=\"3\">Degree, %</th><th scope=\"colgroup\" colspan=\"2\">of diameters, %</th><th \
+         scope=\"colgroup\" colspan=\"2\">of lengths, %</th></tr><tr><th scope=\"col\">Assortment</th><td \
+         class=\"wide\"></td><th scope=\"col\" class=first>as cut</th><th scope=\"col\">unsteered</th><th \
+         scope=\"col\">gained</th><th scope=\"col\" class=first>as cut</th><th scope=\"col\">unsteered</th><th \
+         scope=\"col\" class=first>as cut</th><th scope=\"col\">unsteered</th></tr></thead><tbody>"
     )?;
     for at in 0..figures.instruction.assortments().len() {
         write!(

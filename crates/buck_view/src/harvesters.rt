@@ -36,7 +36,7 @@ fn write_each(out: &mut String, sums: &Sums) -> Result<(), Memory> {
     Ok(())
 }
 
-/// Writes what some postings come to, behind the head of their row.
+/// Writes the figures of some postings, after the head of their row.
 fn write_sums(out: &mut String, sums: &Sums) -> Result<(), Memory> {
     write!(
         out,
@@ -76,8 +76,8 @@ pub(crate) fn write_harvesters(out: &mut String, figures: &Figures<'_>) -> Resul
     Ok(write!(out, "{LIST_END}")?)
 }
 
-/// Writes what grades and steering cost of some postings, behind the head of their row, given what their stems are
-/// worth without grades.
+/// Writes what grades and steering cost of some postings, after the head of their row, given what their stems are worth
+/// without grades.
 fn write_cost(out: &mut String, sums: &Sums, free: Option<&Free>) -> Result<(), Memory> {
     let free = match free {
         Some(free) => free.worth,
@@ -130,8 +130,8 @@ pub(crate) fn write_costs(
         out,
         "\n<section id=\"costs\"><h2>What grades and steering cost</h2><p class=\"lead\">All at base prices, from \
          left to right: the best cuttings if every assortment took every grade, the best with the grade zones as \
-         called, and the stems as cut. Where one harvester&#8217;s grades cost much more than another&#8217;s in the \
-         same stand, look at how its grades are called.</p>"
+         called, and the stems as cut. If grades cost one harvester much more than another in the same stand, check \
+         how its grades are called.</p>"
     )?;
     open_list(out, "Harvester", groups.as_slice())?;
     for own in figures.harvesters.values() {

@@ -10,7 +10,7 @@ use std::alloc::Global;
 /// At most so many classes are shown.
 const MOST_LACKING: usize = 10;
 
-/// Writes a class's price now, its base price and the change, behind the figures of its row.
+/// Writes a class's price now, its base price and the change, after the figures of its row.
 fn write_price(out: &mut String, price: u32, base: u32) -> Result<(), Memory> {
     if base == 0 {
         write!(
@@ -56,7 +56,7 @@ fn write_lack(out: &mut String, figures: &Figures<'_>, lack: &Lack) -> Result<()
     )
 }
 
-/// Writes the section of the classes that lack most, where one lacks and something was cut.
+/// Writes the section of the classes that lack most, if one lacks and something was cut.
 pub(crate) fn write_lacking(
     alloc: Global,
     out: &mut String,
@@ -83,8 +83,8 @@ pub(crate) fn write_lacking(
     write!(
         out,
         "\n<section id=\"lacking\"><h2>Lacking most</h2><p class=\"lead\">Targets are proportions: wanted is the \
-         share that a class should have of the logs cut of its assortment. Together the classes of an assortment cost \
-         its degree all that it is short of 100."
+         number of logs that a class should have of those cut of its assortment. Together the classes of an assortment \
+         cost its degree all that it lacks of 100."
     )?;
     let left = found.len().saturating_sub(MOST_LACKING);
     if left == 1 {

@@ -7,7 +7,7 @@ use buck_words::{Fixed, Grouped, Known, Metres, Millionths, Several, half_up, li
 use std::collections::BTreeMap;
 use std::fmt;
 
-/// Writes a tile's figure in its unit; what it is comes behind.
+/// Writes a tile's figure in its unit; what it is follows.
 fn open_tile<V: fmt::Display + Drop>(
     out: &mut String,
     value: V,
@@ -116,8 +116,8 @@ fn write_verdict(out: &mut String, figures: &Figures<'_>, journals: usize) -> Re
         out,
         "<p class=\"verdict\"><svg viewBox=\"0 0 20 20\" width=\"20\" height=\"20\" aria-hidden=\"true\">\
          <circle cx=\"10\" cy=\"10\" r=\"10\"/><path d=\"M5,10L9,14L15,6\"/></svg>\
-         <span><b>Checked: {}.</b> Every stem was cut for the most worth under the prices then in force, and these \
-         moved only as targets and logs allow",
+         <span><b>Checked: {}.</b> Every stem was cut for the most worth at the prices then in force, and prices moved \
+         only as targets and logs allow",
         Checked(journals)
     )?;
     if limit > 0 {

@@ -30,8 +30,8 @@ fn wanted_in<'a>(instruction: &'a Instruction, demand: Option<&'a Demand>, at: u
     }
 }
 
-/// Writes how many classes of each assortment are wanted, and how many got another target; of demands, or, where there
-/// is none, of the instruction.
+/// Writes how many classes of each assortment are wanted, and how many got another target; of a demand, or, if there is
+/// none, of the instruction.
 fn write_targets_row(
     out: &mut String,
     instruction: &Instruction,
@@ -92,7 +92,7 @@ fn write_demands(out: &mut String, figures: &Figures<'_>, hidden: u64) -> Result
     Ok(())
 }
 
-/// Writes the section of the targets, where there is a demand.
+/// Writes the section of the targets, if there is a demand.
 pub(crate) fn write_targets(out: &mut String, figures: &Figures<'_>) -> Result<(), Memory> {
     let demands = figures.total.demands;
     if demands == 0 {
@@ -101,12 +101,12 @@ pub(crate) fn write_targets(out: &mut String, figures: &Figures<'_>) -> Result<(
     write!(
         out,
         "\n<section><h2>Targets</h2><p class=\"lead\">How many classes of each assortment are wanted, and how many got \
-         another target. The charts mark each change; all other figures go by the last targets."
+         another target. The charts mark each change; all other figures use the last targets."
     )?;
     if figures.journals.len() > 1 {
         write!(
             out,
-            " Each journal begins with the instruction&#8217;s targets; postings count through all journals."
+            " Each journal begins with the instruction&#8217;s targets; postings are counted through all journals."
         )?;
     }
     write!(

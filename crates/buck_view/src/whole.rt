@@ -16,8 +16,8 @@ use buck_record::Memory;
 use buck_unlawful::{Files, close_head, open_head};
 use std::alloc::Global;
 
-/// The page of lawful journals, given their figures, a planner at base prices and the names of the files. It holds no
-/// date and loads nothing: what is the same gives the same page. Refused as `Memory` alone.
+/// Returns the page of lawful journals, given their figures, a planner at base prices and the names of the files. It
+/// holds no date and loads nothing: what is the same gives the same page. Refused as `Memory` alone.
 pub fn page(
     alloc: Global,
     figures: &Figures<'_>,

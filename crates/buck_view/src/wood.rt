@@ -88,7 +88,7 @@ fn write_stack(
     Ok(write!(out, "</svg>")?)
 }
 
-/// Writes the bars of the volumes as cut and unsteered, both in the scale of the greater, where there is any wood.
+/// Writes the bars of the volumes as cut and unsteered, both in the scale of the greater, if there is any wood.
 fn write_stacks(
     out: &mut String,
     cut: &[Part],
@@ -119,7 +119,7 @@ fn write_points(out: &mut String, wood: &Steered, all: &Steered) -> Result<(), M
     Ok(write!(out, "{}", Signed::of(difference_of(there, here), 1))?)
 }
 
-/// Writes what steering made of some wood, behind the head of its row, as a part of all wood.
+/// Writes what steering made of some wood, after the head of its row, as a part of all wood.
 fn write_wood(out: &mut String, wood: &Steered, all: &Steered) -> Result<(), Memory> {
     let Steered { cut, unsteered } = wood;
     write!(
@@ -172,7 +172,7 @@ pub(crate) fn write_wood_section(out: &mut String, figures: &Figures<'_>) -> Res
     write!(
         out,
         "<section id=\"wood\"><h2>What steering did to the wood</h2><p class=\"lead\">The same stems as cut, and \
-         unsteered: by the best cuttings at base prices. Both are valued at base prices.</p>"
+         unsteered: cut for the most worth at base prices. Both worths are at base prices.</p>"
     )?;
     write_stacks(out, cut, unsteered, &all)?;
     open_list(out, "Assortment", groups.as_slice())?;

@@ -1,4 +1,4 @@
--- Numbers as they are rounded where they are printed.
+-- Numbers as they are rounded to be printed.
 use Rattle.std.specs.Prelude.{ℕ, ◌+◌, ◌*◌, ◌/◌}
 
 -- to the nearest integer, a half upwards

@@ -59,9 +59,9 @@ impl fmt::Display for Byte {
     }
 }
 
-/// What a name says where a page has it: its text as it stands, or, of a name that is no text, each byte past 127 by
-/// its number; a page reads that as windows-1252. `& < > " '` are the references of these characters, so nothing of a
-/// name can be read as mark-up.
+/// A name on a page: its text as it stands, or, of a name that is no text, each byte past 127 by its number; a page
+/// reads that as windows-1252. `& < > " '` are the references of these characters, so nothing of a name can be read as
+/// mark-up.
 #[derive(Clone, Copy)]
 pub struct Name<'a>(pub &'a [u8]);
 

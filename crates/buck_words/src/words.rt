@@ -1,6 +1,6 @@
 //! Numbers and names as the words of a page.
 //!
-//! All arithmetic is in integers: a number is rounded once, where it is printed, a half upwards.
+//! All arithmetic is in integers: a number is rounded once, when it is printed, a half upwards.
 ghost use Rattle.std.specs.Prelude.{◌≡◌, ◌↔◌, IsTrue, ◌+◌, ◌-◌, ◌*◌, ◌/◌, ◌%◌, ◌<◌, ◌≤◌, ◌^◌, true, false, length};
 ghost use Rattle.buck_apt.specs.Instruction.{classes_of};
 ghost use Rattle.buck_words.specs.Words.{half_up, permille};
@@ -8,7 +8,7 @@ ghost use Rattle.buck_words.specs.Words.{half_up, permille};
 use buck_apt::Assortment;
 use std::fmt;
 
-/// `n / d` to the nearest integer, a half upwards.
+/// Returns `n / d` to the nearest integer, a half upwards.
 pub fn half_up(n: u128, d: u128) -> u128
     requires some { 0 < d }
     requires fits { (n < 2 ^ 125) × (d < 2 ^ 125) }
@@ -17,7 +17,7 @@ pub fn half_up(n: u128, d: u128) -> u128
     (2 * n + d) / (2 * d)
 }
 
-/// A part of a whole, per mille, to the nearest, a half upwards.
+/// Returns a part of a whole, per mille, to the nearest, a half upwards.
 pub fn permille(n: u128, whole: u128) -> u128
     requires some { 0 < whole }
     requires fits { (n < 2 ^ 112) × (whole < 2 ^ 125) }
@@ -43,7 +43,7 @@ const UNITS: [u128; 13] = [
     1,
 ];
 
-/// Any number, in groups of three digits, separated by a narrow blank that no line breaks at.
+/// Any number, in groups of three digits, separated by a narrow space that no line breaks at.
 #[derive(Clone, Copy)]
 pub struct Grouped(pub u128);
 
@@ -63,17 +63,17 @@ impl fmt::Display for Grouped {
     }
 }
 
-/// A number with digits behind the point.
+/// A number with digits after the point.
 #[derive(Clone, Copy)]
 pub struct Fixed {
     /// The number in units, tenths, hundredths or thousandths, by `places`.
     pub n: u128,
-    /// Number of digits behind the point, 0 to 3; a greater one counts as 3.
+    /// Number of digits after the point, 0 to 3; a greater one counts as 3.
     pub places: u8,
 }
 
 impl Fixed {
-    /// A number of as many places.
+    /// Returns a number of as many places.
     pub fn of(n: u128, places: u8) -> Fixed {
         Fixed { n, places }
     }
@@ -91,7 +91,7 @@ impl fmt::Display for Fixed {
     }
 }
 
-/// A number where there is one, else a dash.
+/// A number if there is one, else a dash.
 #[derive(Clone, Copy)]
 pub struct Known(pub Option<Fixed>);
 
@@ -104,7 +104,7 @@ impl fmt::Display for Known {
     }
 }
 
-/// A degree of apportionment in percent, from ten-thousandths.
+/// Returns a degree of apportionment in percent, from ten-thousandths.
 pub fn degree_text(degree: Option<u32>) -> Known {
     match degree {
         Some(n) => Known(Some(Fixed::of(u128::from(n), 2))),
@@ -112,7 +112,7 @@ pub fn degree_text(degree: Option<u32>) -> Known {
     }
 }
 
-/// A limit of prices in percent, from per mille: with a digit behind the point only where it wants one.
+/// Returns a limit of prices in percent, from per mille: with a digit after the point only if it needs one.
 pub fn limit_text(limit: u32) -> Fixed {
     let n = u128::from(limit);
     if n % 10 == 0 {
@@ -122,10 +122,10 @@ pub fn limit_text(limit: u32) -> Fixed {
     }
 }
 
-/// What stands between facts.
+/// Separates facts on a page.
 pub const DOT: &str = "&nbsp;&#183; ";
 
-/// Tens of a number, to the nearest, a half upwards.
+/// Returns the tens of a number, to the nearest, a half upwards.
 pub fn tens(n: u128) -> u128
     ensures { result ≡ half_up n 10 }
 {
@@ -175,7 +175,7 @@ pub struct Difference {
     pub size: u128,
 }
 
-/// How far `to` lies above `from`, or below it.
+/// Returns how far `to` lies above `from`, or below it.
 pub fn difference_of(from: u128, to: u128) -> Difference
     ensures above { from ≤ to → (result.below ≡ false) × (result.size ≡ to - from) }
     ensures below { to < from → (result.below ≡ true) × (result.size ≡ from - to) }
@@ -193,7 +193,8 @@ pub fn difference_of(from: u128, to: u128) -> Difference
     }
 }
 
-/// A price's change per mille of its base price, to the nearest, a half away from 0. One that rounds to 0 isn't below.
+/// Returns a price's change per mille of its base price, to the nearest, a half away from 0. One that rounds to 0 isn't
+/// below.
 pub fn change_of(price: u32, base: u32) -> Difference
     requires { 0 < base }
     ensures above { base ≤ price → (result.below ≡ false) × (result.size ≡ permille (price - base) base) }
@@ -211,12 +212,12 @@ pub fn change_of(price: u32, base: u32) -> Difference
 #[derive(Clone, Copy)]
 pub struct Signed {
     pub difference: Difference,
-    /// Number of digits behind the point, 0 to 3.
+    /// Number of digits after the point, 0 to 3.
     pub places: u8,
 }
 
 impl Signed {
-    /// A difference with as many digits behind the point.
+    /// Returns a difference with as many digits after the point.
     pub fn of(difference: Difference, places: u8) -> Signed {
         Signed { difference, places }
     }
@@ -246,7 +247,7 @@ pub struct Several {
 }
 
 impl Several {
-    /// This number of things of this name.
+    /// Returns this number of things of this name.
     pub fn of(n: u128, word: &'static str) -> Several {
         Several { n, word }
     }
@@ -267,7 +268,7 @@ impl fmt::Display for Several {
 #[derive(Clone, Copy)]
 pub struct Percent(pub u128);
 
-/// The place of `n` in a drawing of this whole.
+/// Returns the place of `n` in a drawing of this whole.
 pub fn percent_at(n: u64, whole: u64) -> Percent
     requires { 0 < whole }
     ensures { result.0 ≡ n * 10000 / whole }
@@ -282,7 +283,7 @@ impl fmt::Display for Percent {
     }
 }
 
-/// The letter of the assortment at a place: there are at most 16.
+/// Returns the letter of the assortment at an index from 0: there are at most 16.
 pub fn letter(at: usize) -> char
     ensures { result ≡ 65 + at % 16 }
 {
@@ -311,7 +312,7 @@ pub struct Length {
     places: u8,
 }
 
-/// A length in mm in metres, with as many decimals as the lengths of its assortment want, one to three.
+/// Returns a length in mm in metres, with as many decimals as the lengths of its assortment need, one to three.
 pub fn length_text(mm: u32, lengths: &[u32]) -> Length {
     let places = if lengths.iter().all(|n| *n % 100 == 0) {
         1
@@ -345,7 +346,7 @@ pub struct Row {
     pub below: u32,
 }
 
-/// The top diameters of a row of an assortment.
+/// Returns the top diameters of a row of an assortment.
 pub fn row_of(assortment: &Assortment, row: usize) -> Row
     requires { row < length assortment.now.diameters }
 {
@@ -379,7 +380,7 @@ pub struct ClassText {
     length: Length,
 }
 
-/// The class at a place of an assortment, row by row.
+/// Returns the class at an index of an assortment, from 0, row by row.
 pub fn class_text(assortment: &Assortment, at: usize) -> ClassText
     requires { at < classes_of assortment.now }
 {
@@ -402,7 +403,7 @@ const STEPS: [u64; 19] = [
     200_000, 500_000, 1_000_000,
 ];
 
-/// The least of 1, 2, 5, 10, 20, 50 .. that has at most 5 steps in a whole of up to 5,000,000.
+/// Returns the least of 1, 2, 5, 10, 20, 50 .. that has at most 5 steps in a whole of up to 5,000,000.
 pub fn tick_step(whole: u64) -> u64
     ensures { (1 ≤ result) × (result ≤ 1000000) }
 {

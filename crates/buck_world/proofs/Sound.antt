@@ -109,7 +109,7 @@ entry_follows : (h : HistoryParts) (n : ℕ) (p : PlanParts) → IsPlanUnder h (
     → history.Follows h.instruction h.sheets h.postings (Cut (entry_of h n p))
 entry_follows h n p under = grind (arith, common_steps)
 
--- h's posting is added where nobody is answered
+-- h's posting is added if nobody is answered
 added : (w w' : WorldParts) (h : ℕ) (x : Posting) → IsSound w → IsHarvester w h → NobodyAnswered w → harvester_of x ≡ h
     → history.Follows w.history.instruction w.history.sheets w.history.postings x → Adds w h x w' → IsMove w h w'
 added w w' h x s h_in nobody by_h follows (next, is_next, is) =

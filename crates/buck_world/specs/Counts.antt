@@ -17,17 +17,17 @@ IsFresh w (m ∷ ms) = IsFreshAt w m.event × IsFresh m.after ms
 abbrev pub one_if_more : ℕ → ℕ → ℕ
 one_if_more a b = if nat_lt a b then 1 else 0
 
--- 1 where it is a raise that makes the front greater
+-- 1 if it is a raise that makes the front greater
 abbrev pub lift_at : WorldParts → Event → WorldParts → ℕ
 lift_at w (Raise h) w' = one_if_more w.front w'.front
 lift_at w other w' = 0
 
--- 1 where it is a try that adds to its harvester's stale attempts
+-- 1 if it is a try that adds to its harvester's stale attempts
 abbrev pub stale_at : WorldParts → Event → WorldParts → ℕ
 stale_at w (Try h) w' = one_if_more (at w h).stale (at w' h).stale
 stale_at w other w' = 0
 
--- n where the event is h's
+-- n if the event is h's
 abbrev pub if_by : ℕ → Event → ℕ → ℕ
 if_by h e n = if harvester_of_event e == h then n else 0
 

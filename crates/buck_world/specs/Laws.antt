@@ -45,7 +45,7 @@ abbrev pub OneAnswered : Type 0
 OneAnswered = AfterEachRun (λ i n moves w.
     (h g : ℕ) → IsHarvester w h → IsHarvester w g → IsAnswered w h → IsAnswered w g → h ≡ g)
 
--- nobody has seen a version past the front, which is at most the version in force, and equals it where nobody is
+-- nobody has seen a version past the front, which is at most the version in force, and equals it if nobody is
 -- answered
 abbrev pub FrontIsNearVersion : Type 0
 FrontIsNearVersion = AfterEachRun (λ i n moves w.

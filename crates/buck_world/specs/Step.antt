@@ -1,4 +1,4 @@
--- One step: where each event is allowed, and what follows.
+-- One step: when each event is allowed, and what follows.
 use Rattle.std.specs.Prelude.{◌≡◌, ◌≢◌, ◌⊎◌, ℕ, ◌+◌, ◌<◌, ◌≤◌, Option}
 use Rattle.buck_value.specs.Sheet.{SheetParts}
 use Rattle.buck_book.specs.declared.posting.Posting.{Posting}
@@ -23,7 +23,7 @@ IsIdleOrReading Idle = Unit {0}
 IsIdleOrReading Reading = Unit {0}
 IsIdleOrReading other = ⊥
 
--- where each event is allowed
+-- when each event is allowed
 abbrev pub Allowed : WorldParts → Event → Type 0
 Allowed w (Read h v) =
     IsHarvester w h
@@ -43,7 +43,7 @@ pub record IsPlanUnder (h : HistoryParts) (version : ℕ) (p : PlanParts) : Type
   pub sheet_is : p.sheet ≡ sheet_at h.instruction h.sheets version
   pub planned : IsPlan p
 
--- h's posting is added; where it is an end, a next sheet comes, whose prices are free within the price relation
+-- h's posting is added; if it is an end, a next sheet comes, whose prices are free within the price relation
 abbrev pub Adds : WorldParts → ℕ → Posting → WorldParts → Type 0
 Adds w h x w' = (next : Option SheetParts) × IsNext w.history x next × (w' ≡ with_posting w h x next)
 
@@ -52,7 +52,7 @@ abbrev pub Becomes : WorldParts → ℕ → Stage → ℕ → ℕ → WorldParts
 Becomes w h stage seen stale w' =
     w' ≡ with_harvester w h (record { stage = stage; seen = seen; stale = stale })
 
--- a plan that is brought to the book is added where its sheet is in force; else it was a stale attempt
+-- a plan that is brought to the book is added if its sheet is in force; else it was a stale attempt
 abbrev pub Tries : WorldParts → ℕ → PlanParts → WorldParts → Type 0
 Tries w h p w' =
     (((at w h).seen ≡ version_of w.history) × Adds w h (Cut (entry_of w.history h p)) w')

@@ -41,7 +41,7 @@ NobodyAnswered w = (h : ℕ) → IsHarvester w h → IsAnswered w h → ⊥
 abbrev pub with_harvester : WorldParts → ℕ → Harvester → WorldParts
 with_harvester w h x = record w { harvesters = slice_set w.harvesters (h - 1) x }
 
--- the world in which h's posting was added, with the next sheet where there is one, and the front not yet raised
+-- the world in which h's posting was added, with the next sheet if there is one, and the front not yet raised
 abbrev pub with_posting : WorldParts → ℕ → Posting → Option SheetParts → WorldParts
 with_posting w h x next = record w {
   history = history_with w.history x next;

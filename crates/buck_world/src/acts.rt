@@ -106,6 +106,7 @@ pub fn act<F: Fn(&Standing) -> u64 + Drop>(
             }
         }
         Event::Locked { harvester: h, stem } => {
+            // First, so a full book is answered `Full`, whatever memory there is for a plan.
             if book.len() >= book.capacity() as usize {
                 return Err(StepFault::Full);
             }

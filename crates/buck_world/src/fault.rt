@@ -17,7 +17,7 @@ pub enum StepFault {
     /// attempt and before `Targets`.
     #[error("the history is at its capacity")]
     Full,
-    /// A growth was refused.
+    /// An allocation failed.
     #[error("out of memory")]
     Memory,
     /// The event is allowed below the capacity, and its targets aren't valid.

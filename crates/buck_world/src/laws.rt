@@ -11,7 +11,7 @@ pub fn every_history()
 {}
 
 /// After each run nobody has made more than three stale attempts in its call, at most one harvester is answered, nobody
-/// has seen a version past the front, and the front is at most the version in force, which it equals where nobody is
+/// has seen a version past the front, and the front is at most the version in force, which it equals if nobody is
 /// answered.
 pub fn every_world()
     ensures stale { StaleAtMostThree }

@@ -1,7 +1,7 @@
 //! Stages.
 use buck_book::Plan;
 
-/// Where a harvester is in its call.
+/// The stage of a harvester's call.
 #[derive(Drop)]
 pub enum Stage {
     /// It has no call going on.

@@ -6,7 +6,7 @@ use crate::harvester::Harvester;
 use crate::stage::Stage;
 use std::mem;
 
-/// What a harvester is at that is idle.
+/// An idle harvester that has seen a version and has so many stale attempts.
 pub fn idle(seen: u32, stale: u32) -> Harvester
     ensures { result ≡ record { stage = Stage.Idle; seen = seen; stale = stale } }
 {
@@ -24,7 +24,7 @@ pub fn is_harvester(harvesters: &[Harvester], h: u32) -> bool
     1 <= h && h as usize <= harvesters.len()
 }
 
-/// What a harvester is at.
+/// The harvester of a number.
 pub fn at(harvesters: &[Harvester], h: u32) -> &Harvester
     requires { (1 ≤ h) × (h ≤ length harvesters.now) }
     ensures { result.now ≡ slice_index_or harvesters.now (h - 1) newcomer }

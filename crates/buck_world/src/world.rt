@@ -26,7 +26,7 @@ use std::sync::Arc;
 /// A world: a book, the front, and what each harvester is at. At every moment its history is lawful, at most one
 /// harvester is answered, nobody has made more than three stale attempts in its call or seen a version past the front,
 /// each plan that is held was made under the sheet of the version seen, and the front is at most the version in force,
-/// which it equals where nobody is answered.
+/// which it equals if nobody is answered.
 #[derive(Drop)]
 pub struct World<F> {
     book: Book<F>,
@@ -104,7 +104,7 @@ impl<F: Drop> World<F> {
         turns::at(self.harvesters.as_slice(), harvester).stale
     }
 
-    /// Where a harvester of the world is in its call.
+    /// The stage of a harvester's call.
     pub fn stage(&self, harvester: u32) -> &Stage
         requires { IsHarvester self.now.world harvester }
         ensures { result.now ≡ (at self.now.world harvester).stage }
@@ -165,10 +165,10 @@ impl<F: Fn(&Standing) -> u64 + Drop> World<F> {
         })
     }
 
-    /// One event, where it is allowed: what follows is a world step. Else, and where it is refused otherwise, the world
-    /// stays as it was. A try that is stale is answered `Ok`. Refused as `NotAllowed` where no case of the event holds,
-    /// as `Full` where it would try to add a posting at the capacity, as `Targets` where new targets aren't valid, and
-    /// as `Memory` where a growth was refused.
+    /// One event, if it is allowed: what follows is a world step. Else, and if it is refused otherwise, the world
+    /// stays as it was. A try that is stale is answered `Ok`. Refused as `NotAllowed` if no case of the event holds,
+    /// as `Full` if it would try to add a posting at the capacity, as `Targets` if new targets aren't valid, and as
+    /// `Memory` if an allocation failed.
     pub fn step(&mut self, alloc: Global, event: Event) -> Result<(), StepFault>
         requires answers { Answers F.Fn self.old.rule }
         ensures ok { OnOk result (Step self.old.world event self.new.world) }

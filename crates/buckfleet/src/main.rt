@@ -1,7 +1,7 @@
 //! `buckfleet`: the best cutting of felled stems into logs, by a bucking instruction.
 //!
 //! `buckfleet buck APT STM` reads an instruction file and a stem file and prints how each stem is to be cut; without
-//! words it reads both from standard input, with a `|` between them, or says its help where that is a terminal.
+//! words it reads both from standard input, with a `|` between them, or says its help if that is a terminal.
 //! `buckfleet fleet APT STM..` cuts stem files by a fleet, one harvester for each, and prints its report; `--journal OUT`
 //! writes its journal. `buckfleet check APT JOURNAL` says whether a journal is lawful for an instruction, and `buckfleet
 //! report APT JOURNAL` prints its report; `buckfleet view APT JOURNAL` shows it as a page, and `buckfleet table APT JOURNAL
@@ -25,6 +25,7 @@ const STREAMS: i32 = 3;
 /// that is opened later is taken for one.
 fn fill_closed(rt: &HostRuntime) {
     for _ in 0..STREAMS {
+        // Not `/dev/null`, by which the mistake would go unseen: of a folder both a read and a write fail.
         match fs::open(rt, "/") {
             Ok(folder) if folder.as_raw_fd() < STREAMS => {
                 let _ = folder.into_raw_fd();
@@ -53,7 +54,7 @@ fn erases(rt: &HostRuntime) -> bool {
     }
 }
 
-/// Where it is told how far the work is: on standard error, where that is a terminal.
+/// Where progress is shown: on standard error, if that is a terminal.
 fn screen(rt: &HostRuntime) -> Option<Screen<Stderr, &HostRuntime>> {
     let errors = rt.stderr();
     if errors.is_terminal() {

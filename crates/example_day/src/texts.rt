@@ -1,7 +1,7 @@
 //! The two files of the example.
 
 /// Two assortments of pine: saw logs of three diameter classes and three lengths, which take grade 1 alone, and
-/// pulpwood. Prices are made anew after every fourth stem, within a quarter of their base prices.
+/// pulpwood. Prices are recalculated after every fourth stem, within a quarter of their base prices.
 pub const INSTRUCTION: &str = "1 2 APT~901 1 100~902 1 4~903 1 250~910 1 2~
 911 1 saw log~912 1 1~913 1 1~914 1 1~915 1 140 180 220~915 2 600~
 916 1 3100 3700 4300~

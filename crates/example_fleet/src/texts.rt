@@ -1,7 +1,7 @@
 //! The two files of the example.
 
-/// Saw logs of pine in two diameter classes and two lengths. Prices are made anew after every fourth stem, within half of
-/// their base prices.
+/// Saw logs of pine in two diameter classes and two lengths. Prices are recalculated after every fourth stem, within
+/// half of their base prices.
 pub const INSTRUCTION: &str = "1 2 APT~901 1 100~902 1 4~903 1 500~910 1 1~
 911 1 saw log~912 1 1~913 1 1~914 1 1~915 1 120 200~915 2 600~
 916 1 3000 4000~917 1 400 500 600 800~918 1 1 1 1 1~

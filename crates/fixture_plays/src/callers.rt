@@ -45,7 +45,7 @@ fn close_day<F: Drop, L: Ledger>(
     }
 }
 
-/// Opens a fleet with a seat for each list, cuts the lists, and closes it, also where harvesters stopped.
+/// Opens a fleet with a seat for each list, cuts the lists, and closes it, also if harvesters stopped.
 fn day_of<
     L: Ledger + Send + Sync,
     F: Fn(&Standing) -> u64 + Drop + Send,

@@ -55,7 +55,7 @@ pub fn lists_of(
     Ok(lists)
 }
 
-/// A run by a rule, under the saw instruction with this period in stems, limit per mille and capacity, told to a gate.
+/// A run by a rule, under the saw instruction with this period in stems, limit per mille and capacity, seen by a gate.
 pub fn saw_evening<F: Fn(&Standing) -> u64 + Drop + Send, R: Threads + Wait + Sync, G: Gate + Sync>(
     rt: &R,
     alloc: Global,
@@ -96,7 +96,7 @@ pub fn steady_evening<R: Threads + Wait + Sync, G: Gate + Sync>(
     saw_evening(rt, alloc, rule, (1, 0, capacity), lists, gate)
 }
 
-/// Refuses a run in which a growth was refused.
+/// Refuses a run in which an allocation failed.
 pub fn with_memory_to_run(evening: Evening) -> Result<Evening, Fail> {
     match evening.stopped {
         Some(RunFault::Memory) => Err(Fail::from(RunFault::Memory)),

@@ -40,12 +40,12 @@ pub enum Do<'a> {
 #[derive(Clone, Copy, PartialEq, Eq, Debug, Drop)]
 pub enum PlayFault {
     Open(OpenFault),
-    /// A growth was refused to a call.
+    /// An allocation failed in a call.
     Memory,
     Close(CloseFault),
 }
 
-/// A stem with so many samples of 250 mm. None where a growth was refused.
+/// A stem with so many samples of 250 mm. None if an allocation failed.
 fn stem_of(alloc: Global, samples: usize) -> Option<Arc<Stem>> {
     let samples = vec![in alloc; 250; samples].ok()?;
     let stem = Stem::make(alloc, 1, 1, samples, Vec::new(alloc)).ok()?;
@@ -104,12 +104,12 @@ fn commit<F: Fn(&Standing) -> u64 + Drop, L: Ledger, R: Wait>(
     }
 }
 
-/// A plan under a sheet. None where a growth was refused.
+/// A plan under a sheet. None if an allocation failed.
 fn plan_for(alloc: Global, sheet: &Arc<Sheet>, samples: usize) -> Option<Plan> {
     Plan::make(alloc, sheet.clone().ok()?, stem_of(alloc, samples)?).ok()
 }
 
-/// A plan under the newest sheet that is shown. None where none is shown or a growth was refused.
+/// A plan under the newest sheet that is shown. None if none is shown or an allocation failed.
 fn plan_shown<F, L: Ledger>(
     alloc: Global,
     fleet: &Fleet<F, L>,
@@ -176,7 +176,7 @@ fn look<F, L: Ledger, R: Wait>(
     }
 }
 
-/// Does what is said: what the call was told, if it is one.
+/// Does what is said. Returns the answer to the call, if it is one.
 fn carry_out<F: Fn(&Standing) -> u64 + Drop, L: Ledger, R: Wait>(
     rt: &R,
     alloc: Global,
@@ -212,7 +212,7 @@ fn carry_out<F: Fn(&Standing) -> u64 + Drop, L: Ledger, R: Wait>(
     }
 }
 
-/// Does what is said, and once more where a growth was refused and the stage asks for it; tells the stage.
+/// Does what is said, and once more if an allocation failed and the stage asks for it; passes the answer to the stage.
 fn play_turn<F: Fn(&Standing) -> u64 + Drop, L: Ledger, R: Wait>(
     rt: &R,
     alloc: Global,

@@ -1,4 +1,4 @@
-//! A stage on which harvesters meet: a gate that holds harvester 1, and what was told of all calls.
+//! A stage on which harvesters meet: a gate that holds harvester 1, and the answers to all calls.
 use buck_book::{Plan, TargetsFault};
 use buck_fleet::{Gate, Path};
 use buck_value::Sheet;
@@ -36,12 +36,12 @@ pub enum Told {
     Stale(u64),
     /// The targets weren't valid.
     Targets(TargetsFault),
-    /// A growth was refused.
+    /// An allocation failed.
     Memory,
 }
 
 /// A gate that holds the first plans of harvester 1, each until so many more calls of others were answered. It notes
-/// version and worth of each plan of harvester 1, and what was told of each call.
+/// version and worth of each plan of harvester 1, and the answer to each call.
 #[derive(Drop)]
 pub struct Stage {
     held: u64,
@@ -80,14 +80,14 @@ impl Stage {
         Stage::holding(alloc, 0, 0)
     }
 
-    /// A gate that holds nobody, where a call that is refused for want of memory is made once more.
+    /// A gate that holds nobody, and with which a call that is refused for want of memory is made once more.
     pub fn patient(alloc: Global) -> Result<Stage, AllocError> {
         let mut stage = Stage::holding(alloc, 0, 0)?;
         stage.is_patient = true;
         Ok(stage)
     }
 
-    /// Whether a call that was told so is made once more. It is noted that one was.
+    /// Whether a call with this answer is made once more. It is noted that one was.
     pub fn asks_again(&self, told: &Told) -> bool {
         let asks = self.is_patient && matches!(told, Told::Memory);
         if asks {
@@ -120,7 +120,7 @@ impl Stage {
         self.wait(&self.plans, number);
     }
 
-    /// Notes what a call of a harvester was told.
+    /// Notes the answer to a call of a harvester.
     pub fn tell<R: Wait>(&self, rt: &R, harvester: u32, told: Told) {
         if matches!(told, Told::Memory) {
             self.is_short.store(true, Ordering::SeqCst);
@@ -140,17 +140,17 @@ impl Stage {
         }
     }
 
-    /// Whether a growth was refused to a call.
+    /// Whether an allocation failed in a call.
     pub fn is_short(&self) -> bool {
         self.is_short.load(Ordering::SeqCst)
     }
 
-    /// Whether nobody waited for too long, and the calls were told this, in this order.
+    /// Whether nobody waited for too long, and the calls had these answers, in this order.
     pub fn has_told<R: Wait>(&self, rt: &R, wants: &[(u32, Told)]) -> bool {
         !self.is_late.load(Ordering::SeqCst) && self.told.lock(rt).as_slice() == wants
     }
 
-    /// Whether nobody waited for too long, and a harvester was told this after all else that was told.
+    /// Whether nobody waited for too long, and the last answer of all was this one to a harvester.
     pub fn was_told_last<R: Wait>(&self, rt: &R, harvester: u32, told: Told) -> bool {
         !self.is_late.load(Ordering::SeqCst)
             && self.told.lock(rt).last() == Some(&(harvester, told))

@@ -30,7 +30,7 @@ pub fn saw_play<F: Fn(&Standing) -> u64 + Drop + Send, R: Threads + Wait + Sync>
     Ok(closed)
 }
 
-/// Refuses a play in which a growth was refused to a call.
+/// Refuses a play in which an allocation failed in a call.
 pub fn with_memory(stage: &Stage) -> Result<(), Fail> {
     if stage.is_short() {
         return Err(Fail::from(PlayFault::Memory));

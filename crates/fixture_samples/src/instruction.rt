@@ -33,7 +33,7 @@ pub fn edited(alloc: Global, text: &str, old: &str, new: &str) -> Result<String,
     Ok(format!(in alloc; "{before}{new}{after}")?)
 }
 
-/// The text of the saw instruction with this period in stems, this limit per mille and these targets, a blank between
+/// The text of the saw instruction with this period in stems, this limit per mille and these targets, a space between
 /// two.
 pub fn saw_text(alloc: Global, period: u32, limit: u32, targets: &str) -> Result<String, Fail> {
     Ok(format!(in alloc;

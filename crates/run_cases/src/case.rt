@@ -87,7 +87,7 @@ enum At {
     Second(u8),
 }
 
-/// Adds what one more byte of a line stands for, and says where the reading is then, or none where it can't be read.
+/// Adds what one more byte of a line stands for, and says where the reading is then, or none if it can't be read.
 fn put_byte(out: &mut Vec<u8>, at: At, byte: u8) -> Result<Option<At>, Memory> {
     match at {
         At::Byte if byte == b'\\' => Ok(Some(At::Escape)),

@@ -57,6 +57,7 @@ fn served(rt: &HostRuntime, task: &Task<'_>) -> u8 {
     let outcome = serve(
         rt.alloc(),
         task,
+        &Nobody,
         &mut rt.reader(),
         &mut Disk::of(rt, rt.alloc(), &Desk::of(0)),
         &mut io::writer(rt),

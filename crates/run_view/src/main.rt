@@ -1,6 +1,6 @@
 //! Shows journals that lie beside it, as `buckfleet view` and `buckfleet table` do, and prints of each page and of each
-//! table whether it is, byte for byte, the one that is stored there. The stored ones were made by another program, in
-//! another language, and looked at by a person.
+//! table whether it is, byte for byte, the one that is stored there. The figures and drawings of the stored ones were
+//! made by another program, in another language, and looked at by a person.
 #![tactic(auto)]
 
 use buck_engine::{Desk, Disk, Settings, Shown, Table, ViewTask, conclude, serve_view};
@@ -15,7 +15,7 @@ use std::{fs, io};
 struct Case {
     apt: &'static str,
     journal: &'static str,
-    /// A second journal, where several are shown.
+    /// A second journal, if several are shown.
     next: Option<&'static str>,
     shown: Shown,
     status: u8,

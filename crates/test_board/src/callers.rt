@@ -29,7 +29,7 @@ pub fn open_for_two<R: Wait>(
     Ok((board, one, two))
 }
 
-/// Whether two snapshots of a board have one version and show like sheets. They do where they have one version.
+/// Whether two snapshots of a board have one version and show like sheets. They do if they have one version.
 pub fn are_alike(board: &Board, a: &Snapshot, b: &Snapshot) -> bool
     requires a_here { IsSnapshotOf board.now a.now }
     requires b_here { IsSnapshotOf board.now b.now }

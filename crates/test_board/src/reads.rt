@@ -90,7 +90,7 @@ fn holds<R: Wait>(
     Ok(true)
 }
 
-/// The number, from 1, of the first row that doesn't hold of a new board, and 0 where all do.
+/// The number, from 1, of the first row that doesn't hold of a new board, and 0 if all do.
 fn first_wrong<R: Wait>(rt: &R, alloc: Global, rows: &[Row]) -> Result<usize, Fail> {
     let instruction = saw_instruction(alloc, 1, 1000, "1 1 1 1")?;
     let (board, mut one, mut two) = board_of(rt, alloc, &instruction)?;

@@ -29,7 +29,7 @@ fn is_right(shown: &Snapshot, least: u32) -> bool {
 }
 
 /// Whether a read shows a sheet that was put up, no older than what the seat had seen, and a second read after it one
-/// that is no older, and the same sheet where it has the same version.
+/// that is no older, and the same sheet if it has the same version.
 fn reads_right(board: &Board, seat: &mut BoardSeat) -> bool
     requires { IsSeatOf board.now seat.old }
     ensures { IsSeatOf board.now seat.new }
@@ -54,7 +54,7 @@ struct Watch {
     is_done: AtomicBool,
 }
 
-/// Reads until the other thread is done, and once more. Gives the version seen last, and none where a read was wrong.
+/// Reads until the other thread is done, and once more. Gives the version seen last, and none if a read was wrong.
 fn read_on(board: &Board, seat: &mut BoardSeat, watch: &Watch) -> Option<u32>
     requires { IsSeatOf board.now seat.old }
 {

@@ -18,7 +18,7 @@ enum Does {
 }
 
 /// The period, what is done, the prices of the first sheets, the class counts, and all postings: by the step rule with a
-/// limit of 500 per mille, where one log of each class is wanted.
+/// limit of 500 per mille, with one log of each class wanted.
 type History = (
     u32,
     &'static [Does],
@@ -135,7 +135,7 @@ fn is_right(rt: &HostRuntime, row: History) -> Result<bool, Fail> {
     Ok(is_as_told(book, row))
 }
 
-/// The place of the first row, counted from 1, whose history differs; 0 where none does.
+/// The place of the first row, counted from 1, whose history differs; 0 if none does.
 fn wrong_history(rt: &HostRuntime) -> Result<usize, Fail> {
     let mut at: usize = 0;
     for row in HISTORIES {

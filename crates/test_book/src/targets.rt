@@ -16,7 +16,7 @@ const TARGETS: [(&[u32], Option<TargetsFault>); 5] = [
     ),
 ];
 
-/// The place of the first row, counted from 1, that is judged otherwise; 0 where none is.
+/// The place of the first row, counted from 1, that is judged otherwise; 0 if none is.
 fn wrong_targets(saw: &Instruction) -> usize {
     let mut at: usize = 0;
     for (targets, want) in TARGETS {

@@ -72,7 +72,7 @@ impl io::Read for Repeated {
 /// which has two stems, `empty`, which has none, `beech`, which has one of another species, and `many`, which has 1,000
 /// of no length and one number; `short` and `long`, of 999,000 and of 1,000,000 blanks; the
 /// files `out` and `full`, which can be made, the second with room for 99 bytes; `heavy`, for which there is no memory;
-/// and the names that were asked for, each with a blank after it.
+/// and the names that were asked for, each with a space after it.
 #[derive(Drop)]
 pub struct Shelf<'a> {
     names: &'a Mutex<Vec<u8>>,

@@ -41,13 +41,13 @@ const ENTRY: &str = "ENTRY 0 1 1 0 1 1 157080000\n";
 /// The line of a write fault.
 const WRITE: &str = "write fault\n";
 
-/// What is said where OUT is an input.
+/// OUT is an input.
 const EATEN: &str = "error: OUT is";
 
-/// What is said where a period or a limit isn't one.
-const NO_NUMBER: &str = "error: a period is 1 to 1000";
+/// A period or a limit is out of range.
+const NO_NUMBER: &str = "error: --period must be 1 to 1000";
 
-/// The fault of the journal `jrn` where prices may not move.
+/// The fault of the journal `jrn` if prices may not move.
 const UNMOVED: &str = "replay fault 2 1 0\n";
 
 /// The fault of the journal `unlawful`.
@@ -73,7 +73,7 @@ const NOTHING: &str = "CLASS 0 0 0 1 0 400 400\n";
 const NO_JOURNAL: &str = "journal fault 2\n";
 
 /// Faults in words, and their lines.
-const OTHER_KIND: &str = "stm, line 1: kind of file (1 2): \"STM\", APT wanted\napt fault 2\n";
+const OTHER_KIND: &str = "stm, line 1: kind of file (1 2): \"STM\", expected APT\napt fault 2\n";
 
 const NONE: &str = "none: no such file\nread fault 1\n";
 
@@ -82,14 +82,14 @@ const NO: &str = "no: is a folder\nwrite fault\n";
 const FULL: &str = "full: can't be opened, read or written\nwrite fault\n";
 
 const NO_SHEET: &str =
-    "unlawful: prices (971 1) of version 1: not there, 4 numbers wanted\nreplay fault 1 1\n";
+    "unlawful: prices (971 1) of version 1: missing, expected 4 numbers\nreplay fault 1 1\n";
 
 const PRICE: &str =
-    "jrn, line 1: price of version 1, class 3 (assortment 0 \"saw\", row 1, column 1): 400, 500 wanted by the rule linear
+    "jrn, line 1: price of version 1, class 3 (assortment 0 \"saw\", row 1, column 1): 400, expected 500 by the rule linear
 check fault 4 1 3 400 500\n";
 
 const CUT: &str =
-    "jrn, line 1: posting 0 (harvester 1, stem 1): cut 1 of its harvester, 0 wanted, as many as stems in empty
+    "jrn, line 1: posting 0 (harvester 1, stem 1): cut 1 of its harvester, expected 0, the number of stems in empty
 check fault 3 1 1\n";
 
 /// What a check says that ties a journal to stem files and a rule.
@@ -105,7 +105,7 @@ const LINEAR: &str = "check fault 4 1 3 400 500\n";
 
 const STEADY: &str = "check fault 4 1 0 600 400\n";
 
-/// Words; the status; how what stands on the output begins, or on the errors where the status isn't 0, and nothing on the
+/// Words; the status; how what stands on the output begins, or on the errors if the status isn't 0, and nothing on the
 /// other; and the names that are asked for. All files are opened before one is read, in the order of the words, so that a
 /// file that is missing comes before one that is refused; the file of a journal is made after that, and before one is
 /// read.
@@ -121,19 +121,14 @@ const WORDS: [Row; 25] = [
     ("buck --threads 0 apt stm", 2, "error: ", ""),
     ("buck --threads 65 apt stm", 2, "error: ", ""),
     ("buck --threads two apt stm", 2, "error: ", ""),
-    (
-        "buck --threads +4 apt stm",
-        2,
-        "error: a number of threads",
-        "",
-    ),
+    ("buck --threads +4 apt stm", 2, "error: --threads must", ""),
     ("buck stm apt", 1, "apt fault 2\n", "stm apt "),
     ("buck apt bad", 1, "stm 1 fault 2\n", "apt bad "),
     ("buck none stm", 5, "read fault 0\n", "none "),
     ("buck apt none", 5, "read fault 1\n", "apt none "),
     ("buck apt heavy", 3, "memory\n", "apt heavy "),
-    ("--help", 0, "Cuts each stem", ""),
-    ("buck --help", 0, "Cuts each stem", ""),
+    ("--help", 0, "Cut felled stems", ""),
+    ("buck --help", 0, "Cut each stem", ""),
     ("--version", 0, "buckfleet 0.1.0 (logic ", ""),
     ("pine.apt", 2, "error: ", ""),
     ("buck apt", 2, "error: ", ""),
@@ -152,7 +147,7 @@ const FLEETS: [Row; 27] = [
     ("fleet apt stm --journal=no -q", 5, WRITE, "apt stm >no "),
     ("fleet apt stm --journal full", 5, WRITE, "apt stm >full "),
     ("fleet apt stm stm apt", 1, STM_3, "apt stm stm apt "),
-    ("fleet --help", 0, "Cuts stem files", ""),
+    ("fleet --help", 0, "Cut stem files", ""),
     ("fleet apt", 2, "error: ", ""),
     ("fleet --rule fast apt stm", 2, "error: ", ""),
     ("fleet --period 0 apt stm", 2, NO_NUMBER, ""),
@@ -196,14 +191,14 @@ const JOURNALS: [Row; 30] = [
     ("check apt jrn", 0, "LAWFUL 1\n", "apt jrn "),
     ("check apt stm", 1, "journal fault 2\n", "apt stm "),
     ("check apt none", 5, "read fault 1\n", "apt none "),
-    ("check --help", 0, "Says whether", ""),
+    ("check --help", 0, "Check whether", ""),
     ("check apt", 2, "error: ", ""),
     ("report apt jrn", 0, REPORT, "apt jrn "),
     ("report jrn apt", 1, "apt fault 2\n", "jrn apt "),
     ("report apt stm", 1, "journal fault 2\n", "apt stm "),
     ("report apt none", 5, "read fault 1\n", "apt none "),
     ("report apt jrn stm", 2, "error: ", ""),
-    ("report --help", 0, "Prints the report", ""),
+    ("report --help", 0, "Print the report", ""),
     ("check apt jrn stm", 0, "LAWFUL 1\n", "apt jrn stm "),
     ("check apt jrn stm empty", 0, LAWFUL, "apt jrn stm empty "),
     ("check --rule step apt jrn stm", 0, LAWFUL, "apt jrn stm "),
@@ -249,8 +244,8 @@ const PAGES: [Row; 22] = [
     ("check --limit 0 apt jrn", 4, UNMOVED, "apt jrn "),
     ("report --limit 0 apt jrn", 4, UNMOVED, "apt jrn "),
     ("table --limit 0 apt jrn logs", 4, UNMOVED, "apt jrn "),
-    ("view --help", 0, "Shows journals as a page", ""),
-    ("table --help", 0, "Shows journals as a table", ""),
+    ("view --help", 0, "Show journals as a page", ""),
+    ("table --help", 0, "Show journals as a table", ""),
     ("view apt jrn none", 5, READ_2, "apt jrn none "),
     ("table apt jrn", 2, "error: ", ""),
     ("table apt jrn stems", 2, "error: ", ""),
@@ -279,7 +274,7 @@ const SENTENCES: [Row; 7] = [
     ("explain replay fault 4", 2, "error: there is no such", ""),
     ("explain apt fault 3 953 1", 2, "error: there is", ""),
     ("explain", 2, "error: ", ""),
-    ("explain --help", 0, "Says what", ""),
+    ("explain --help", 0, "Say what", ""),
 ];
 
 /// Words for which a fault is said in words, and files in the place of which streams stand.
@@ -310,7 +305,7 @@ const EXPLAINED: [Row; 14] = [
     ),
     ("check --explain apt jrn empty", 4, CUT, "apt jrn empty "),
     ("buck - stm", 1, "apt fault 1 15\n", "stm "),
-    ("buck - -", 2, "error: - stands", ""),
+    ("buck - -", 2, "error: only one", ""),
     ("fleet apt stm --journal -", 0, "1 2 JRN~\n", "apt stm "),
     ("fleet apt - --journal -", 1, "stm 1 fault 1 15\n", "apt "),
 ];
@@ -333,27 +328,27 @@ const RULES: [(&str, &str); 7] = [
 ];
 
 /// What is said of `bad`.
-const BAD: &str = "bad, line 1: kind of file (1 2): \"BAD\", STM wanted\n";
+const BAD: &str = "bad, line 1: kind of file (1 2): \"BAD\", expected STM\n";
 
 /// What is said of the file of blanks.
-const BLANK: &str = "long: kind of file (1 2): not there, 1 2 APT~ wanted\n";
+const BLANK: &str = "long: kind of file (1 2): missing, expected 1 2 APT~\n";
 
 /// Words, and what stands on the screen, by a clock that is read 600 ms after it was read before.
-const SCREENS: [(&str, &str); 18] = [
+const SCREENS: [(&str, &str); 20] = [
     ("buck long stm", BLANK),
     (
         "fleet apt many",
-        "\r1000 of 1000 stems planned\x1b[K\nnote: many: stem 1 (place 2): an earlier stem has its number too\n",
+        "\r1000 of 1000 stems planned\x1b[K\nnote: many: stem 1 (place 2): an earlier stem has the same number\n",
     ),
     ("fleet --quiet apt many", ""),
     (
         "fleet --in-turn apt many",
-        "note: many: stem 1 (place 2): an earlier stem has its number too\n",
+        "note: many: stem 1 (place 2): an earlier stem has the same number\n",
     ),
     ("buck apt bad", BAD),
     (
         "fleet apt two stm",
-        "note: stm: stem 1 (place 1): an earlier stem has its number too\n",
+        "note: stm: stem 1 (place 1): an earlier stem has the same number\n",
     ),
     ("check apt jrn stm", ""),
     (
@@ -363,7 +358,15 @@ const SCREENS: [(&str, &str); 18] = [
     ("buck -q apt beech", ""),
     (
         "buck twins stm",
-        "note: twins: assortment 1 \"saw\": an earlier one has its name too\n",
+        "note: twins: assortment 1 \"saw\": an earlier one has the same name\n",
+    ),
+    (
+        "fleet twins two stm",
+        "note: twins: assortment 1 \"saw\": an earlier one has the same name\nnote: stm: stem 1 (place 1): an earlier stem has the same number\n",
+    ),
+    (
+        "sweep --rule steady --threads 1 twins empty",
+        "note: twins: assortment 1 \"saw\": an earlier one has the same name\n",
     ),
     (
         "fleet --rule linear apt stm",
@@ -403,7 +406,7 @@ fn run_line<T: Threads + Wait + Sync>(rt: &T, alloc: Global, line: &str) -> Resu
     Ok(run_words(rt, alloc, &Ok(words)))
 }
 
-/// Whether one stream begins so where the other is empty.
+/// Whether one stream begins so if the other is empty.
 fn says(ending: &Ending, start: &str) -> bool {
     let (said, other) = if ending.status == 0 {
         (&ending.output, &ending.errors)
@@ -605,7 +608,7 @@ fn words_that_cannot_be_had(rt: HostRuntime) {
             rt.alloc(),
             ErrorKind::InvalidData,
             2,
-            "error: a word of the command line is not UTF-8"
+            "error: an argument is not UTF-8"
         )
     );
     assert!(rt; refuses(&rt, rt.alloc(), ErrorKind::OutOfMemory, 3, "memory\n"));

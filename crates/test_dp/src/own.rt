@@ -44,7 +44,7 @@ fn stem(rt: &HostRuntime) -> Result<Stem, Fail> {
     stem_of(rt.alloc(), samples.as_slice(), &[(8000, 2)])
 }
 
-/// Whether the second log is told, with its reason.
+/// Whether the second log is reported, with its reason.
 fn is_told(sheet: &Sheet, stem: &Stem, row: Told) -> bool {
     let (start, length, assortment, reason) = row;
     let logs = [log(0, 3000, 0), log(start, length, assortment)];

@@ -5,7 +5,7 @@ use fixture_samples::{MAX, SAW, SAW_AND_POLE, edited, saw_text, uniform_stem};
 use std::test::Fail;
 
 /// The number of samples and the diameter of a stem, the start, the length and the assortment of a log, and its row and
-/// its column, where it is allowed.
+/// its column, if it is allowed.
 type Classed = (usize, u16, u32, u32, u8, Option<(u8, u8)>);
 
 const CLASSES: [Classed; 15] = [
@@ -34,7 +34,7 @@ fn is_classed(rt: &HostRuntime, sheet: &Sheet, row: Classed) -> Result<bool, Fai
     Ok(class.map(|found| (found.row, found.column)) == want)
 }
 
-/// The place of the first row, counted from 1, of which the class differs; 0 where none does.
+/// The place of the first row, counted from 1, of which the class differs; 0 if none does.
 fn wrong_class(rt: &HostRuntime, sheet: &Sheet) -> Result<usize, Fail> {
     let mut at: usize = 0;
     for row in CLASSES {
@@ -53,7 +53,7 @@ fn class_limits(rt: HostRuntime) -> Result<(), Fail> {
     Ok(())
 }
 
-/// Instructions of the saw: its prices may not shift, or by half, or by half where the first is 3; or with poles, by half;
+/// Instructions of the saw: its prices may not shift, or by half, or by half if the first is 3; or with poles, by half;
 /// or the one of the largest numbers.
 #[derive(Clone, Copy)]
 enum Saw {
@@ -112,7 +112,7 @@ const PRICES: [Priced; 20] = [
     (Saw::Largest, &[u32::MAX, 0], Want::At(0)),
 ];
 
-/// Whether prices are refused as is told, or not.
+/// Whether prices are refused as the row says, or not.
 fn is_priced(rt: &HostRuntime, row: Priced) -> Result<bool, Fail> {
     let text = text_of(rt, row.0)?;
     let want = match row.2 {
@@ -123,7 +123,7 @@ fn is_priced(rt: &HostRuntime, row: Priced) -> Result<bool, Fail> {
     Ok(sheet_with(rt, text.as_str(), row.1)?.err() == want)
 }
 
-/// The place of the first row, counted from 1, that is refused otherwise; 0 where none is.
+/// The place of the first row, counted from 1, that is refused otherwise; 0 if none is.
 fn wrong_prices(rt: &HostRuntime) -> Result<usize, Fail> {
     let mut at: usize = 0;
     for row in PRICES {

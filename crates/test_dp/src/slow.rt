@@ -32,7 +32,7 @@ fn allowed_logs(rt: &HostRuntime, sheet: &Sheet, stem: &Stem) -> Result<Vec<Log>
     Ok(logs)
 }
 
-/// The trim of an assortment, or 0 where it isn't there.
+/// The trim of an assortment, or 0 if it isn't there.
 fn trim_of(sheet: &Sheet, assortment: u8) -> u32 {
     match sheet.instruction().assortments().get(assortment as usize) {
         None => 0,
@@ -40,7 +40,7 @@ fn trim_of(sheet: &Sheet, assortment: u8) -> u32 {
     }
 }
 
-/// Where the last of some logs ends with its trim, or 0 where there is none.
+/// Where the last of some logs ends with its trim, or 0 if there is none.
 fn end_of(sheet: &Sheet, logs: &[Log]) -> u32 {
     match logs.last() {
         None => 0,

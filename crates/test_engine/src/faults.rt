@@ -8,7 +8,7 @@ use buck_stem::StmFault;
 use std::alloc::{AllocError, Global};
 use std::test::Fail;
 
-/// Whether a fault has this line and this exit status; and where a write takes nothing, the answer says so and what was
+/// Whether a fault has this line and this exit status; and if a write takes nothing, the answer says so and what was
 /// written before is there.
 fn says(fault: EngineFault, line: &str, code: u8) -> bool {
     let mut whole = Sink::of(8);

@@ -3,8 +3,8 @@
 use crate::parts::ROOM;
 use crate::work::apt_and_stm;
 use buck_engine::{
-    EngineFault, Files, Table, run_check, run_check_in_parts, run_table, run_table_in_parts,
-    run_view, run_view_in_parts,
+    CrossCheck, EngineFault, Files, Open, Settings, SeveralThreads, Shown, Table, ViewTask,
+    run_check, run_check_with, run_table, run_view, serve_view,
 };
 use buck_journal::ReplayFault;
 use std::alloc::Global;
@@ -58,29 +58,84 @@ fn journal(alloc: Global, cuts: usize, outvalued: &[usize]) -> Result<String, Fa
     Ok(text)
 }
 
-/// What so many threads make of an instruction file and a journal, or an engine without threads where no number is told.
+/// The instruction file under its name, and the journal under every other.
+#[derive(Drop)]
+struct Shelf<'x> {
+    apt: &'x [u8],
+    jrn: &'x [u8],
+}
+
+impl<'x> Open for Shelf<'x> {
+    type File = &'x [u8];
+
+    ghost opens = { λ _ _ _ _. ⊤ };
+
+    fn open(&mut self, name: &str) -> Option<&'x [u8]> {
+        if name == "apt" {
+            Some(self.apt)
+        } else {
+            Some(self.jrn)
+        }
+    }
+}
+
+/// A check of a journal by so many threads.
+fn check<'x, T: Threads + Sync>(
+    rt: &T,
+    alloc: Global,
+    (mut apt, mut jrn): (&'x [u8], &'x [u8]),
+    threads: Option<u8>,
+    out: &mut Vec<u8>,
+) -> Result<(), EngineFault> {
+    let by = CrossCheck {
+        rule: None,
+        settings: Settings::own(),
+    };
+    let workers = SeveralThreads::of(rt, threads);
+    run_check_with(&workers, alloc, &by, &mut apt, &mut jrn, &mut [], out)
+}
+
+/// What is shown of a journal by so many threads.
+fn show<'x, T: Threads + Sync>(
+    rt: &T,
+    alloc: Global,
+    shown: Shown,
+    (apt, jrn): (&'x [u8], &'x [u8]),
+    threads: Option<u8>,
+    out: &mut Vec<u8>,
+) -> Result<(), EngineFault> {
+    let mut journals = Vec::new(alloc);
+    journals.push("jrn")?;
+    let task = ViewTask {
+        apt: "apt",
+        journals,
+        shown,
+        settings: Settings::own(),
+        threads,
+    };
+    serve_view(rt, alloc, &task, &mut Shelf { apt, jrn }, out)
+}
+
+/// What so many threads make of an instruction file and a journal, or an engine without threads if no number is given.
 fn text_by<'x, T: Threads + Sync>(
     rt: &T,
     alloc: Global,
     made: Made,
-    (mut apt, mut jrn): (&'x [u8], &'x [u8]),
+    files: (&'x [u8], &'x [u8]),
     threads: Option<u8>,
 ) -> Result<Vec<u8>, EngineFault> {
+    let (mut apt, mut jrn) = files;
     // Room for all, since what a list as a writer is refused is a fault of writing.
     let mut text = Vec::with_capacity(alloc, ROOM)?;
     let out = &mut text;
     let table = Table::Logs;
     match (made, threads) {
         (Made::Check, None) => run_check(alloc, &mut apt, &mut jrn, out)?,
-        (Made::Check, _) => run_check_in_parts(rt, alloc, threads, &mut apt, &mut jrn, out)?,
+        (Made::Check, _) => check(rt, alloc, files, threads, out)?,
         (Made::Page, None) => run_view(alloc, &mut apt, &mut jrn, &FILES, out)?,
-        (Made::Page, _) => {
-            run_view_in_parts(rt, alloc, threads, &mut apt, &mut jrn, &FILES, out)?
-        }
+        (Made::Page, _) => show(rt, alloc, Shown::Page, files, threads, out)?,
         (Made::Logs, None) => run_table(alloc, &mut apt, &mut jrn, table, out)?,
-        (Made::Logs, _) => {
-            run_table_in_parts(rt, alloc, threads, &mut apt, &mut jrn, table, out)?
-        }
+        (Made::Logs, _) => show(rt, alloc, Shown::Table(table), files, threads, out)?,
     }
     Ok(text)
 }
@@ -128,7 +183,7 @@ fn tables_by_numbers_of_threads(rt: HostRuntime) -> Result<(), Fail> {
     Ok(())
 }
 
-/// Whether 1 to 9 threads are told of the cut at a place, after which another one is outvalued too.
+/// Whether 1 to 9 threads report the cut at a place, after which another one is outvalued too.
 fn is_told<T: Threads + Sync>(rt: &T, alloc: Global, at: usize) -> Result<bool, Fail> {
     let apt = instruction(alloc)?;
     let jrn = journal(alloc, 200, &[at, 199])?;

@@ -19,8 +19,8 @@ fn is_refused<T: Threads + Wait + Sync>(rt: &T, alloc: Global, engine: Engine) -
     None
 }
 
-/// Runs an engine, and once more where it was refused memory. Ends with an error where a run ended otherwise than it may,
-/// or the second was refused too, and with one that says so where the first was refused.
+/// Runs an engine, and once more if it was refused memory. Ends with an error if a run ended otherwise than it may,
+/// or the second was refused too, and with one that says so if the first was refused.
 fn goes_on<T: Threads + Wait + Sync>(rt: &T, alloc: Global, engine: Engine) -> Result<(), Fail> {
     match is_refused(rt, alloc, engine) {
         Some(false) => Ok(()),

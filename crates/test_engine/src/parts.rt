@@ -19,7 +19,7 @@ fn stem_file(alloc: Global, number: u32) -> Result<String, Fail> {
     Ok(text)
 }
 
-/// What so many threads write of an instruction file and a stem file, or one without threads where no number is told.
+/// What so many threads write of an instruction file and a stem file, or one without threads if no number is given.
 fn text_by<'x, T: Threads + Sync>(
     rt: &T,
     alloc: Global,

@@ -3,8 +3,8 @@ ghost use Rattle.std.specs.Prelude.{◌≤◌};
 
 use crate::streams::{Sink, Source};
 use buck_engine::{
-    EngineFault, run_bare, run_buck, run_buck_in_parts, run_check, run_check_with, run_fleet_files,
-    run_in_turn,
+    CrossCheck, EngineFault, OneThread, Settings, run_bare, run_buck, run_buck_in_parts, run_check,
+    run_check_with, run_fleet_files, run_in_turn,
 };
 use buck_rule::{NamedRule, Rule, Standing, step};
 use std::alloc::Global;
@@ -153,7 +153,6 @@ impl Engine {
         let [mut first, second, third] = files;
         let [mut journal, mut text] = sinks;
         let mut others = [second, third];
-        let named = Some(NamedRule::Step);
         let rule = Rule::new(|s: &Standing| step(s));
         let outcome = match self {
             Engine::Bare => run_bare(alloc, &mut first, &mut text),
@@ -169,7 +168,19 @@ impl Engine {
             Engine::Check => run_check(alloc, &mut first, &mut others[0], &mut text),
             Engine::Tied => {
                 let (postings, stms) = others.split_at_mut(1);
-                run_check_with(alloc, &mut first, &mut postings[0], stms, named, &mut text)
+                let by = CrossCheck {
+                    rule: Some(NamedRule::Step),
+                    settings: Settings::own(),
+                };
+                run_check_with(
+                    &OneThread,
+                    alloc,
+                    &by,
+                    &mut first,
+                    &mut postings[0],
+                    stms,
+                    &mut text,
+                )
             }
             Engine::Fleet => run_fleet_files(
                 rt,

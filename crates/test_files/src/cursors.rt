@@ -27,7 +27,7 @@ fn is_found(found: Option<(&[u8], &[u8])>, rest: &str, left: &str) -> bool {
     }
 }
 
-/// The first row that differs, counted from 1; 0 where none does.
+/// The first row that differs, counted from 1; 0 if none does.
 fn first_other(rows: &[(u16, u16, &str, &str, &str)]) -> usize {
     for i in 0..rows.len() {
         let (number, kind, text, rest, left) = rows[i];

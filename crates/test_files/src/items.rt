@@ -47,7 +47,7 @@ const FILES: [(&[u8], &[u8]); 37] = [
     (b"1 2 ~ ~ 1 2 ", b" 1 2 ~ 1 2 ~"),
 ];
 
-/// Puts an item: its number and its kind, each after a blank, and its rest.
+/// Puts an item: its number and its kind, each after a space, and its rest.
 fn put_item(out: &mut Vec<u8>, number: u16, kind: u16, rest: &[u8]) -> Result<(), Memory> {
     put_numbers(out, &[u128::from(number), u128::from(kind)])?;
     out.extend_from_slice(b" ")?;
@@ -99,7 +99,7 @@ fn is_read_as(alloc: Global, file: &[u8], wanted: &[u8]) -> Result<bool, Fail> {
     Ok(borrowed(alloc, file)?.as_slice() == wanted && owned(alloc, file)?.as_slice() == wanted)
 }
 
-/// The first row that differs, counted from 1; 0 where none does.
+/// The first row that differs, counted from 1; 0 if none does.
 fn first_other(alloc: Global, rows: &[(&[u8], &[u8])]) -> Result<usize, Fail> {
     for i in 0..rows.len() {
         if !is_read_as(alloc, rows[i].0, rows[i].1)? {

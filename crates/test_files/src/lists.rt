@@ -1,4 +1,4 @@
-//! The calls of a reader that make lists: each makes one where there is memory.
+//! The calls of a reader that make lists: each makes one if there is memory.
 use buck_apt::AptFault;
 use buck_record::check::make_each;
 use buck_record::rules::{FILE, items_at, items_in, numbers_in};

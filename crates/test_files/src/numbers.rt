@@ -3,7 +3,7 @@ use buck_record::{RecordFault, number, numbers, numbers_into, put_number, wide};
 use std::alloc::Global;
 use std::test::Fail;
 
-/// A text and its numbers, each after a blank, or a question mark and the place of the first word that is none.
+/// A text and its numbers, each after a space, or a question mark and the place of the first word that is none.
 const TEXTS: [(&[u8], &[u8]); 27] = [
     (b"", b""),
     (b" \t\r\n", b""),
@@ -79,7 +79,7 @@ fn are_read(alloc: Global, text: &[u8], wanted: &[u8]) -> Result<bool, Fail> {
     Ok(listed(alloc, text)?.as_slice() == wanted && are_kept(alloc, text, wanted)?)
 }
 
-/// The first row of texts that differs, counted from 1; 0 where none does.
+/// The first row of texts that differs, counted from 1; 0 if none does.
 fn first_other_text(alloc: Global, rows: &[(&[u8], &[u8])]) -> Result<usize, Fail> {
     for i in 0..rows.len() {
         if !are_read(alloc, rows[i].0, rows[i].1)? {
@@ -95,7 +95,7 @@ fn numbers_of_texts(rt: HostRuntime) -> Result<(), Fail> {
     Ok(())
 }
 
-/// A text, its one number, and else the place where it is refused, with 0 where it isn't.
+/// A text, its one number, and else the place where it is refused, with 0 if it isn't.
 const ONES: [(&[u8], u64, usize); 17] = [
     (b"007", 7, 0),
     (b"\n\t 5\r", 5, 0),
@@ -124,7 +124,7 @@ fn outcome(value: u64, place: usize) -> Result<u64, RecordFault> {
     Err(RecordFault::Digits { place })
 }
 
-/// The same, where a number past 4,294,967,295 is none.
+/// The same, if a number past 4,294,967,295 is none.
 fn narrow_outcome(value: u64, place: usize) -> Result<u32, RecordFault> {
     if value > 4_294_967_295 {
         return Err(RecordFault::Digits { place: 1 });
@@ -135,7 +135,7 @@ fn narrow_outcome(value: u64, place: usize) -> Result<u32, RecordFault> {
     Err(RecordFault::Digits { place })
 }
 
-/// The first row of single numbers that differs, counted from 1; 0 where none does.
+/// The first row of single numbers that differs, counted from 1; 0 if none does.
 fn first_other_one(rows: &[(&[u8], u64, usize)]) -> usize {
     for i in 0..rows.len() {
         let (text, value, place) = rows[i];

@@ -35,7 +35,7 @@ fn has_diameters(alloc: Global, stem: &Stem, step: u32, wanted: &[u32]) -> Resul
     Ok(again.diameters() == wanted)
 }
 
-/// The first row that differs, counted from 1; 0 where none does.
+/// The first row that differs, counted from 1; 0 if none does.
 fn first_other_diameters(
     alloc: Global,
     stem: &Stem,
@@ -76,7 +76,7 @@ fn has_step(profile: &Profile<'_>, step: u16, mask: u8, start: usize) -> bool {
     profile.grades(i, i + 1) == mask && profile.run_start(i) == start
 }
 
-/// The first row that differs, counted from 1; 0 where none does.
+/// The first row that differs, counted from 1; 0 if none does.
 fn first_other_step(profile: &Profile<'_>, rows: &[(u16, u8, usize)]) -> usize {
     for k in 0..rows.len() {
         let (step, mask, start) = rows[k];

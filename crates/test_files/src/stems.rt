@@ -51,7 +51,7 @@ fn is_made(
     }
 }
 
-/// The first row that differs, counted from 1; 0 where none does.
+/// The first row that differs, counted from 1; 0 if none does.
 fn first_other_parts(alloc: Global, rows: &[Parts<'_>]) -> Result<usize, Fail> {
     for i in 0..rows.len() {
         let (species, sample, count, zones, wanted) = rows[i];
@@ -100,7 +100,7 @@ fn is_so_at(stem: &Stem, x: u32, diameter: u32, grade: u8) -> bool {
     x <= stem.length() && stem.diameter_at(x) == diameter && stem.grade_at(x) == grade
 }
 
-/// The first row that differs, counted from 1; 0 where none does.
+/// The first row that differs, counted from 1; 0 if none does.
 fn first_other_place(alloc: Global, rows: &[(&[u16], u32, u32, u8)]) -> Result<usize, Fail> {
     for i in 0..rows.len() {
         let (samples, x, diameter, grade) = rows[i];
@@ -133,7 +133,7 @@ const GRADES: [Grades<'static>; 9] = [
     (&[(50, 2), (60, 3), (70, 2)], 51, 80, 6),
 ];
 
-/// The first row that differs, counted from 1; 0 where none does.
+/// The first row that differs, counted from 1; 0 if none does.
 fn first_other_grades(alloc: Global, rows: &[Grades<'_>]) -> Result<usize, Fail> {
     for i in 0..rows.len() {
         let (zones, a, b, wanted) = rows[i];

@@ -1,4 +1,4 @@
-//! Plays of one harvester alone: what each call was told, and the postings and sheets at the end.
+//! Plays of one harvester alone: the answer to each call, and the postings and sheets at the end.
 use buck_book::TargetsFault;
 use buck_fleet::{Closed, Path};
 use fixture_plays::fixtures::*;
@@ -94,7 +94,7 @@ fn holds<R: Threads + Wait + Sync>(rt: &R, alloc: Global, row: Row<'_>) -> Resul
     Ok(stage.has_told(rt, row.told) && has_come_to(&closed, &row))
 }
 
-/// The number, from 1, of the first row that doesn't hold, and 0 where all do.
+/// The number, from 1, of the first row that doesn't hold, and 0 if all do.
 fn first_wrong<R: Threads + Wait + Sync>(
     rt: &R,
     alloc: Global,

@@ -9,8 +9,8 @@ use std::sync::Wait;
 use std::test::Fail;
 use std::thread::Threads;
 
-/// So many first plans of harvester 1, which cuts one stem, are held, each until so many calls of harvester 2 were answered;
-/// what is told to all calls, and the versions of harvester 1's plans.
+/// So many first plans of harvester 1, which cuts one stem, are held, each until so many calls of harvester 2 were
+/// answered; the answers to all calls, and the versions of harvester 1's plans.
 #[derive(Clone, Copy)]
 struct Row<'a> {
     held: (u64, u64),
@@ -90,8 +90,8 @@ const UNTIL_A_DEMAND: Row<'static> = Row {
 /// What a harvester does that cuts one stem once harvester 1 has made a plan.
 const CUTS_LATER: [Do<'static>; 2] = [Do::Await(1), Do::Cut(41)];
 
-/// Whether the calls were told this, harvester 1 made plans of these versions for stems of 4,000 mm, and there is a posting
-/// for each call.
+/// Whether these were the answers to the calls, harvester 1 made plans of these versions for stems of 4,000 mm, and
+/// there is a posting for each call.
 fn has_gone<R: Wait>(
     rt: &R,
     closed: &Closed,
@@ -116,7 +116,7 @@ fn holds<R: Threads + Wait + Sync>(rt: &R, alloc: Global, row: Row<'static>) -> 
     Ok(has_gone(rt, &closed, &stage, row.told, row.versions))
 }
 
-/// The number, from 1, of the first row that doesn't hold, and 0 where all do.
+/// The number, from 1, of the first row that doesn't hold, and 0 if all do.
 fn first_wrong<R: Threads + Wait + Sync>(
     rt: &R,
     alloc: Global,

@@ -1,5 +1,5 @@
-//! A plain slow judge of a history of the saw instruction, by the step rule and targets that are all 1, where each stem has
-//! one diameter and is shorter than 9,000 mm. It has arithmetic of its own, counts the whole list anew at each entry, and
+//! A plain slow judge of a history of the saw instruction, by the step rule and targets that are all 1. Each stem has
+//! one diameter and is shorter than 9,000 mm. It has arithmetic of its own, counts the whole list at each entry, and
 //! finds what a stem is worth by trying all lists of logs.
 use buck_book::{Entry, Posting};
 use buck_fleet::Closed;
@@ -16,7 +16,7 @@ fn diameter_of(entry: &Entry) -> u64 {
     }
 }
 
-/// The place of a log's class among the four. None where there is no such class.
+/// The place of a log's class among the four. None if there is no such class.
 fn class_of(diameter: u64, length: u64) -> Option<usize> {
     if diameter < 100 || diameter >= 400 {
         return None;
@@ -71,7 +71,7 @@ fn sum_of(counts: &[u64; 4]) -> u64 {
     sum
 }
 
-/// The degree of apportionment in hundredths of a per cent. None where nothing was cut.
+/// The degree of apportionment in hundredths of a per cent. None if nothing was cut.
 pub fn degree_of(postings: &[Posting]) -> Option<u64> {
     let counts = counts_of(postings);
     let all = sum_of(&counts);
@@ -153,7 +153,7 @@ fn are_right_sheets(closed: &Closed, period: usize, limit: u64) -> bool {
     true
 }
 
-/// What a log is worth, in millionths of the price unit. 0 where it has no class.
+/// What a log is worth, in millionths of the price unit. 0 if it has no class.
 fn worth_of_log(prices: &[u32], diameter: u64, length: u64) -> u64 {
     let square = diameter.saturating_mul(diameter).saturating_mul(length);
     let volume = square.saturating_mul(7854) / 10_000_000;
@@ -166,7 +166,7 @@ fn worth_of_log(prices: &[u32], diameter: u64, length: u64) -> u64 {
     }
 }
 
-/// What an entry's logs are worth together. None where one isn't allowed, or begins before the end of another.
+/// What an entry's logs are worth together. None if one isn't allowed, or begins before the end of another.
 fn worth_of_entry(entry: &Entry, prices: &[u32]) -> Option<u64> {
     let diameter = diameter_of(entry);
     let mut end = 0u64;

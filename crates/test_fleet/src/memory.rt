@@ -50,7 +50,7 @@ fn refused_memory_of_each_call(rt: HostRuntime) -> Result<(), Fail> {
     with_memory_all_along(&stage)
 }
 
-/// Whether a run of two lists of four stems that stopped so may have these entries, which the two seats kept: where one
+/// Whether a run of two lists of four stems that stopped so may have these entries, which the two seats kept: if one
 /// harvester was refused memory, the other went on to the end of its list.
 fn may_have(closed: &Closed, stopped: Option<RunFault>) -> bool {
     let kept = closed.kept();

@@ -25,7 +25,7 @@ const OPENINGS: [(u32, u32, Result<u32, OpenFault>); 8] = [
     (1, 1, Ok(1)),
 ];
 
-/// The number, from 1, of the first opening that is answered otherwise, and 0 where none is.
+/// The number, from 1, of the first opening that is answered otherwise, and 0 if none is.
 fn first_wrong_opening<R: Wait>(rt: &R, alloc: Global) -> Result<usize, Fail> {
     let mut at = 0usize;
     for (seats, capacity, want) in OPENINGS {
@@ -74,7 +74,7 @@ fn has_refused_plan<R: Wait>(rt: &R, closed: &Closed, stage: &Stage) -> bool {
         && has_postings(closed, &postings)
 }
 
-/// A plan of the same version is stale where another fleet's sheet of that version is in force.
+/// A plan of the same version is stale if another fleet's sheet of that version is in force.
 #[test]
 fn plan_of_another_fleet(rt: HostRuntime) -> Result<(), Fail> {
     let sheet = sheet_of_another(&rt, rt.alloc())?;

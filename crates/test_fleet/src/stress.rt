@@ -39,7 +39,7 @@ fn mixed(
     Ok(list)
 }
 
-/// The stems of a list, where so many lists share all of them out: one more in the first, where they don't come out even.
+/// The stems of a list, if so many lists share all of them out: one more in the first, if they don't come out even.
 fn share_of(seat: usize, seats: usize) -> usize {
     let left = STEMS.saturating_sub(seat).saturating_add(seats);
     left.saturating_sub(1).checked_div(seats).unwrap_or(0)
@@ -73,7 +73,7 @@ fn is_whole(closed: &Closed, period: usize) -> bool {
     closed.entries().len() == STEMS && has_all_kept(closed) && is_right(closed, period, 500)
 }
 
-/// The judge finds fault with a history that is right, where it is told of another period or limit.
+/// The judge finds fault with a history that is right, if it is given another period or limit.
 fn is_taken_for_another(closed: &Closed) -> bool {
     is_right(closed, 7, 499)
         || is_right(closed, 1, 500)

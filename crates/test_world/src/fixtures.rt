@@ -75,7 +75,7 @@ fn event_of(kit: &Kit, what: Do) -> Result<Event, Memory> {
     })
 }
 
-/// The answer of a step where memory isn't refused.
+/// The answer of a step if memory isn't refused.
 fn told(answer: Result<(), StepFault>) -> Result<Option<StepFault>, Memory> {
     match answer {
         Ok(()) => Ok(None),

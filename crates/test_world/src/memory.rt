@@ -32,8 +32,8 @@ fn is_like<F: Drop>(world: &World<F>, want: (usize, Place, u32)) -> bool {
     world.entries().len() == want.0 && is_at(world, 1, want.1, 0, want.2)
 }
 
-/// Does one thing that is allowed, and once more where memory was refused, as the world is then as before: whether it was
-/// refused. Nothing, where a world is another than it should be.
+/// Does one thing that is allowed, and once more if memory was refused, as the world is then as before: whether it was
+/// refused. Nothing, if a world is another than it should be.
 fn does_in_the_end<F: Fn(&Standing) -> u64 + Drop>(
     rt: &HostRuntime,
     world: &mut World<F>,
@@ -78,7 +78,7 @@ fn goes_on<F: Fn(&Standing) -> u64 + Drop>(
     Ok((tried, done))
 }
 
-/// Ends a test in which memory was refused with an error that says so, where each world was as it should be.
+/// Ends a test in which memory was refused with an error that says so, if each world was as it should be.
 fn with_memory(told: (Option<bool>, Option<bool>)) -> Result<(), Fail> {
     match told {
         (Some(false), Some(false)) => Ok(()),

@@ -241,7 +241,7 @@ fn search(rt: &HostRuntime, shape: &Shape, length: u32) -> Result<Option<usize>,
     }
 }
 
-/// Adds the letters of a harvester: its reads, plans, tries, locked cuts and raises, and all others where asked for.
+/// Adds the letters of a harvester: its reads, plans, tries, locked cuts and raises, and all others if asked for.
 fn add_letters(letters: &mut Vec<Do>, h: u32, is_all: bool) -> Result<(), Fail> {
     let some = [
         Do::Read(h, 0),

@@ -31,7 +31,7 @@ not_outvalued sheet stem logs these others first same admissible less =
     let best : IsFirstBest sheet stem these = subst (λ x. IsFirstBest sheet stem x) same first in
     let most = best.best.none_outvalues others admissible in omega (arith, most, less)
 
--- no log, where one that is worth something is allowed
+-- the best isn't empty if a log that is worth something is allowed
 pub not_empty : (sheet : SheetParts) (stem : StemParts) (logs : List Log) (g : Log)
     → IsFirstBest sheet stem logs
     → logs ≡ []
@@ -40,7 +40,7 @@ pub not_empty : (sheet : SheetParts) (stem : StemParts) (logs : List Log) (g : L
 not_empty sheet stem logs g first same allowed dear =
     not_outvalued sheet stem logs [] (g ∷ []) first same (alone sheet stem g allowed) (omega (arith, dear))
 
--- a log that is allowed and worth something, where the best is worth nothing
+-- an allowed log is worth no more than the best cutting
 pub not_worthless : (sheet : SheetParts) (stem : StemParts) (logs : List Log) (g : Log)
     → IsFirstBest sheet stem logs
     → IsAllowed sheet.instruction stem g
@@ -72,7 +72,7 @@ not_the_later sheet stem logs early late some same allowed tie before =
     let p : IsBefore (late ∷ []) (early ∷ []) = first.first (early ∷ []) best (differ early late before) in
     elim p [ inl q ↦ not_both early late before q | inr q ↦ q.1 ]
 
--- no log, where one that is worth nothing is allowed
+-- the first of the best isn't empty if a log that is worth nothing is allowed
 pub not_without_a_free_log : (sheet : SheetParts) (stem : StemParts) (logs : List Log) (g : Log)
     → IsFirstBest sheet stem logs
     → logs ≡ []

@@ -7,7 +7,7 @@ use Rattle.buck_value.specs.Sheet.{SheetParts, price_of}
 use Rattle.buck_value.specs.Volume.{volume, worth_at}
 use Rattle.buck_value.specs.Allowed.{row_at, top_diameter, class_of, kind_in}
 
--- the log's assortment, where it is there, is such
+-- the log's assortment, if there is one, is such
 abbrev pub ItsAssortment : SheetParts → Log → (AssortmentParts → Type 0) → Type 0
 ItsAssortment sheet log Such =
     (a : AssortmentParts) → slice_get sheet.instruction.assortments log.assortment ≡ Some a → Such a

@@ -213,7 +213,7 @@ pub fn zero_log_left_out(alloc: Global, sheet: &Sheet, stem: &Stem, log: &Log) -
     Ok(())
 }
 
-/// The worth that is told is that of no log, though one that is worth something may be cut.
+/// The worth is that of no log, though one that is worth something may be cut.
 pub fn worth_of_the_top_row(
     alloc: Global,
     sheet: &Sheet,

@@ -53,7 +53,7 @@ pub fn own_worth_of_the_first_log(
     }
 }
 
-/// The second log is told, though the first can't be cut either.
+/// The second log is reported, though the first can't be cut either.
 pub fn last_log_told(sheet: &Sheet, stem: &Stem, logs: &[Log], first: &Log, second: &Log)
     requires logs { logs.now ≡ first.now ∷ second.now ∷ [] }
     requires refused { Applies sheet.now.instruction stem.now 0 first.now Species }
@@ -64,7 +64,7 @@ pub fn last_log_told(sheet: &Sheet, stem: &Stem, logs: &[Log], first: &Log, seco
     }
 }
 
-/// The last reason that applies is told.
+/// The last reason that applies is reported.
 pub fn last_reason_told(instruction: &Instruction, stem: &Stem, from: u32, log: &Log)
     requires { Applies instruction.now stem.now from log.now Species }
 {
@@ -75,7 +75,7 @@ pub fn last_reason_told(instruction: &Instruction, stem: &Stem, from: u32, log: 
     }
 }
 
-/// A log is told to overlap the one before it that starts where that one ends.
+/// A log that starts where the one before it ends is said to overlap it.
 pub fn next_log_starts_behind_the_end(instruction: &Instruction, stem: &Stem, from: u32, log: &Log)
     requires { log.now.start ≡ from }
 {

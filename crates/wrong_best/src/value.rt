@@ -1,5 +1,6 @@
 //! Wrong answers about sheets, about which logs are allowed, and about their classes and worths.
 ghost use Rattle.std.specs.Prelude.{◌≡◌, ◌≢◌, ◌+◌, ◌*◌, ◌<◌, ◌≤◌, ◌%◌, ◌/◌, [], ◌∷◌, length, slice_index, slice_get, Some, Contains};
+ghost use Rattle.std.specs.Int.{bit_at};
 ghost use Rattle.std.specs.Option.{option_map};
 ghost use Rattle.buck_apt.specs.Instruction.{IsClass, classes, index_of};
 ghost use Rattle.buck_stem.specs.Stem.{stem_length, diameter_at, grade_at, HasGradesOf};
@@ -10,15 +11,15 @@ ghost use Rattle.wrong_best.specs.Logs.{ItsAssortment, AreOfTwoRows, worth_with_
 
 use buck_apt::{Assortment, Class, Instruction};
 use buck_record::Memory;
-use buck_stem::Stem;
+use buck_stem::{Grades, Stem};
 use buck_value::{
-    Log, Prepared, Sheet, Wood, bought_row, class_of, log_valuation, log_worth, row_of, takes,
-    volume_of, worth_if_allowed, worth_of_piece,
+    Log, Prepared, Sheet, bought_row, class_of, log_valuation, log_worth, row_of, takes, volume_of,
+    worth_if_allowed, worth_of_piece,
 };
 use std::alloc::Global;
 use std::sync::Arc;
 
-/// The sheet of the base prices is told as the second one.
+/// The sheet of the base prices is given version 1.
 pub fn base_sheet_of_version_1(alloc: Global, instruction: Arc<Instruction>) -> Result<(), Memory> {
     let sheet = Sheet::base(alloc, instruction)?;
     let right = sheet.version();
@@ -73,7 +74,7 @@ pub fn copy_at_base_prices(alloc: Global, sheet: &Sheet, class: Class, wrong: u3
     prove!(right != wrong);
 }
 
-/// Two sheets with the same prices are told the same, though their instructions differ.
+/// Two sheets with the same prices are said to be the same, though their instructions differ.
 pub fn same_without_instruction(one: &Sheet, two: &Sheet)
     requires { one.now.instruction ≢ two.now.instruction }
 {
@@ -82,7 +83,7 @@ pub fn same_without_instruction(one: &Sheet, two: &Sheet)
     prove!(right != wrong);
 }
 
-/// The base price is told in the place of the price in force.
+/// The base price is returned in the place of the price in force.
 pub fn worth_by_base_price(sheet: &Sheet, class: Class, wrong: u32)
     requires class { IsClass sheet.now.instruction class }
     requires wrong { wrong ≡ slice_index (base_prices sheet.now.instruction) (index_of sheet.now.instruction class) }
@@ -113,7 +114,7 @@ pub fn piece_by_volume() {
     prove!(right != wrong);
 }
 
-/// A diameter on a row's lower limit is told of the row below.
+/// A diameter on a row's lower limit is given the row below.
 pub fn row_one_too_low(assortment: &Assortment)
     requires { assortment.now.diameters ≡ 100 ∷ 200 ∷ [] }
 {
@@ -131,11 +132,21 @@ pub fn bought_at_the_upper_diameter(assortment: &Assortment, column: usize)
     prove!(right != wrong);
 }
 
-/// An assortment takes wood that is cut with another trim.
-pub fn takes_any_trim(assortment: &Assortment, wood: Wood)
-    requires { assortment.now.trim ≢ wood.trim }
+/// An assortment takes wood of another species.
+pub fn takes_any_species(assortment: &Assortment, species: u8, grades: Grades)
+    requires { assortment.now.species ≢ species }
 {
-    let right = takes(assortment, wood);
+    let right = takes(assortment, species, grades);
+    let wrong = true;
+    prove!(right != wrong);
+}
+
+/// An assortment takes wood that has a grade beside its own.
+pub fn takes_any_grade(assortment: &Assortment, species: u8, grades: Grades)
+    requires wood { bit_at grades 2 ≡ 1 }
+    requires other { Contains assortment.now.grades 3 → ⊥ }
+{
+    let right = takes(assortment, species, grades);
     let wrong = true;
     prove!(right != wrong);
 }
@@ -288,7 +299,7 @@ pub fn column_too_low(sheet: &Sheet, stem: &Stem, log: &Log)
     prove!(right != wrong);
 }
 
-/// The top diameter of a log is told a millimetre less.
+/// The top diameter of a log is a millimetre too small.
 pub fn log_valuation_top_a_millimetre_less(sheet: &Sheet, stem: &Stem, log: &Log)
     requires { top_diameter stem.now log.now ≡ 250 }
 {
@@ -311,7 +322,7 @@ pub fn volume_with_trim(sheet: &Sheet, stem: &Stem, log: &Log, wrong: u64)
     prove!(right != wrong);
 }
 
-/// Two assortments are counted where there is one.
+/// Two assortments are counted if there is one.
 pub fn assortments_one_more(prepared: &Prepared<'_, '_>)
     requires { length prepared.now.sheet.instruction.assortments ≡ 1 }
 {

@@ -1,4 +1,4 @@
--- Where a cut is outvalued, or a posting has a wrong number, what stands behind it isn't told as the first fault.
+-- If a cut is outvalued, or a posting has a wrong number, nothing behind it is reported as the first fault.
 use Rattle.std.proofs.Common.{◌≡◌, ℕ, ◌<◌, ◌≤◌, inl, inr, List, take, slice_get, Option, None, Some, sym, ap, subst, ◌∙◌, arith}
 use Rattle.std.proofs.lemmas.Bool.{cases_lt}
 use Rattle.buck_value.specs.declared.log.Log.{Log}
@@ -25,7 +25,7 @@ place_of_number h k at x (inr (begun, inl call)) = call.0
 place_of_number h k at (Cut e) (inr (begun, inr content)) = absurd content.2
 place_of_number h k at (Demand d) (inr (begun, inr content)) = absurd content.2
 
--- where a cut is outvalued, the first fault is at none after it
+-- if a cut is outvalued, the first fault is at none after it
 met_by_then : (h : HistoryParts) (fault : ReplayFault) (first : ℕ) (e : EntryParts) (dearer : List Log)
     → slice_get h.postings first ≡ Some (Cut e)
     → IsAdmissible (sheet_at h.instruction h.sheets e.version) e.stem dearer
@@ -86,7 +86,7 @@ here h first x there k y same found is =
     ap (posting_in x) (sym found ∙ subst (λ n. slice_get h.postings n ≡ Some x) (sym same) there) in
     subst (λ n. IsNumbered (take n h.postings) x) same (subst (λ z. IsNumbered (take k h.postings) z) one is)
 
--- where a posting has a wrong number, no cut from there on is told as outvalued
+-- if a posting has a wrong number, no cut from there on is reported as outvalued
 pub before_wrong_number : (h : HistoryParts) (at first : ℕ) (x : Posting)
     → slice_get h.postings first ≡ Some x
     → (IsNumbered (take first h.postings) x → ⊥)

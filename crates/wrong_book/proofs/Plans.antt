@@ -12,7 +12,7 @@ use Rattle.buck_value.specs.Sheet.{SheetParts}
 use Rattle.buck_value.specs.Allowed.{IsAllowed, worth_of}
 use Rattle.buck_dp.specs.Best.{IsFirstBest}
 
--- no log, where one that is worth something is allowed
+-- the best isn't empty if a log that is worth something is allowed
 pub not_empty : (sheet : SheetParts) (stem : StemParts) (logs : List Log) (g : Log)
     → IsFirstBest sheet stem logs
     → logs ≡ []
@@ -22,7 +22,7 @@ not_empty sheet stem logs g first same allowed dear =
     let best : IsFirstBest sheet stem [] = subst (λ x. IsFirstBest sheet stem x) same first in
     let most = best.best.none_outvalues (g ∷ []) (omega arith, allowed, tt) in omega (arith, most, dear)
 
--- no next sheet, where a posting is no end
+-- no next sheet, if a posting is no end
 pub no_sheet : (h : HistoryParts) (x : Posting) (next : Option SheetParts)
     → IsNext h x next
     → (IsEnd h.instruction h.postings x → ⊥)
@@ -30,7 +30,7 @@ pub no_sheet : (h : HistoryParts) (x : Posting) (next : Option SheetParts)
 no_sheet h x None is_next no_end = refl
 no_sheet h x (Some s) is_next no_end = absurd (no_end is_next.0)
 
--- a next sheet, where it is one
+-- a next sheet, if it is one
 pub a_sheet : (h : HistoryParts) (x : Posting) (next : Option SheetParts)
     → IsNext h x next
     → IsEnd h.instruction h.postings x
@@ -38,7 +38,7 @@ pub a_sheet : (h : HistoryParts) (x : Posting) (next : Option SheetParts)
 a_sheet h x None is_next end none = is_next end
 a_sheet h x (Some s) is_next end none = search rules
 
--- a cut after a demand alone is no end, where a period has two cuts
+-- a cut after a demand alone is no end, if a period has two cuts
 pub no_end_after_demand : (i : InstructionParts) (ps : List Posting) (d : DemandParts) (e : EntryParts)
     → i.period ≡ 2
     → ps ≡ Demand d ∷ []

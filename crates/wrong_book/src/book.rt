@@ -39,7 +39,7 @@ pub fn version_counts_entries<F: Drop>(book: &Book<F>)
     prove!(right != wrong);
 }
 
-/// The sheet of half the version is told to be in force.
+/// The sheet of half the version is said to be in force.
 pub fn sheet_of_an_earlier_version<F: Drop>(book: &Book<F>)
     requires { version_of book.now.history ≡ 2 }
 {
@@ -87,7 +87,7 @@ pub fn counts_stale_attempts<F: Fn(&Standing) -> u64 + Drop>(
     prove!(right != wrong);
 }
 
-/// The calls of the first harvester are told for every harvester.
+/// Every harvester is given the calls of the first.
 pub fn calls_of_the_first_harvester<F: Drop>(book: &Book<F>)
     requires { calls_of 1 book.now.history.postings ≢ calls_of 2 book.now.history.postings }
 {
@@ -96,7 +96,7 @@ pub fn calls_of_the_first_harvester<F: Drop>(book: &Book<F>)
     prove!(right != wrong);
 }
 
-/// The capacity is told one less.
+/// The capacity is one too low.
 pub fn capacity_less_one<F: Drop>(book: &Book<F>)
     requires { book.now.capacity ≡ 10 }
 {
@@ -105,7 +105,7 @@ pub fn capacity_less_one<F: Drop>(book: &Book<F>)
     prove!(right != wrong);
 }
 
-/// A book that is given another rule begins anew.
+/// A book that is given another rule begins again.
 pub fn other_rule_begins_anew<F: Drop>(book: Book<F>)
     requires { 0 < length book.history.postings }
 {
@@ -124,7 +124,7 @@ pub fn targets_of_the_opening<F: Drop>(book: &Book<F>, wrong: &[u32])
     prove!(right != wrong);
 }
 
-/// No targets are told.
+/// No targets are returned.
 pub fn targets_hidden<F: Drop>(book: &Book<F>)
     requires { 0 < classes book.now.history.instruction }
 {
@@ -133,7 +133,7 @@ pub fn targets_hidden<F: Drop>(book: &Book<F>)
     prove!(right != wrong);
 }
 
-/// No postings are told.
+/// No postings are returned.
 pub fn entries_hidden<F: Drop>(book: &Book<F>)
     requires { 0 < length book.now.history.postings }
 {
@@ -287,7 +287,7 @@ pub fn stale_carries_plans_sheet<F: Fn(&Standing) -> u64 + Drop>(
     prove!(right != wrong);
 }
 
-/// No next sheet, where the plan's entry ends the period.
+/// No next sheet, though the plan's entry ends the period.
 pub fn next_sheet_hidden(ready: &Ready)
     requires { ready.now.next ≢ None }
 {
@@ -414,7 +414,7 @@ pub fn targets_counted_short(instruction: &Instruction, targets: &[u32])
     prove!(right != wrong);
 }
 
-/// A target too large is told where there isn't one for each class.
+/// A target too large is reported, though there isn't one for each class.
 pub fn range_before_count(instruction: &Instruction, targets: &[u32])
     requires { length targets.now < classes instruction.now }
 {
@@ -487,7 +487,7 @@ pub fn entry_clone_as_the_first(entry: &Entry) -> Result<(), Memory>
     Ok(())
 }
 
-/// Two entries of different logs are told the same.
+/// Two entries of different logs are said to be the same.
 pub fn entry_same_without_logs(one: &Entry, two: &Entry)
     requires { one.now.logs ≢ two.now.logs }
 {
@@ -496,7 +496,7 @@ pub fn entry_same_without_logs(one: &Entry, two: &Entry)
     prove!(right != wrong);
 }
 
-/// Two entries of different stems are told the same.
+/// Two entries of different stems are said to be the same.
 pub fn entry_same_without_stems(one: &Entry, two: &Entry)
     requires { one.now.stem ≢ two.now.stem }
 {
@@ -516,7 +516,7 @@ pub fn demand_clone_of_version_0(demand: &Demand) -> Result<(), Memory>
     Ok(())
 }
 
-/// Two demands of different targets are told the same.
+/// Two demands of different targets are said to be the same.
 pub fn demand_same_without_targets(one: &Demand, two: &Demand)
     requires { one.now.targets ≢ two.now.targets }
 {
@@ -534,7 +534,7 @@ pub fn posting_clone_as_the_first(posting: &Posting) -> Result<(), Memory> {
     Ok(())
 }
 
-/// Two postings of different demands are told the same.
+/// Two postings of different demands are said to be the same.
 pub fn posting_same_by_number(one: &Posting, two: &Posting)
     requires { one.now ≢ two.now }
 {
@@ -560,7 +560,7 @@ pub fn plan_without_logs(plan: &Plan, log: &Log)
     prove!(right != wrong);
 }
 
-/// The half of a plan's worth is told.
+/// Half of a plan's worth is returned.
 pub fn plan_worth_halved(plan: &Plan)
     requires { plan.now.worth ≡ 600 }
 {

@@ -35,7 +35,7 @@ pub fn last_part_dropped<T: Threads + Sync>(
     prove!(right != wrong);
 }
 
-/// The parts are swapped: a cut is told that comes after one which is outvalued too.
+/// The parts are swapped: the fault is a cut that comes after one which is outvalued too.
 pub fn later_part_told_first<T: Threads + Sync>(
     rt: &T,
     alloc: Global,
@@ -64,8 +64,8 @@ pub fn later_part_told_first<T: Threads + Sync>(
     prove!(!is_wrong);
 }
 
-/// What the search found is told, whatever the way in order found: a cut that is outvalued, at a posting of a wrong
-/// number or behind it.
+/// The search alone decides, whatever the walk in order found: a cut that is outvalued, at a posting of a wrong number
+/// or behind it.
 pub fn outvalued_told_past_a_wrong_number<T: Threads + Sync>(
     rt: &T,
     alloc: Global,
@@ -88,7 +88,7 @@ pub fn outvalued_told_past_a_wrong_number<T: Threads + Sync>(
     prove!(!is_wrong);
 }
 
-/// What the way in order found is told, whatever the search found: a wrong number behind a cut that is outvalued.
+/// The walk in order alone decides, whatever the search found: a wrong number behind a cut that is outvalued.
 pub fn wrong_number_told_past_an_outvalued_cut<T: Threads + Sync>(
     rt: &T,
     alloc: Global,

@@ -124,7 +124,7 @@ pub fn largest_price_refused(alloc: Global) {
     prove!(right != wrong);
 }
 
-/// An item that stands in the place of a worth is told by its digits.
+/// An item that stands in the place of a worth is refused for its digits.
 #[tactic(auto, using(crate::proofs::Read::digits_before_shape))]
 pub fn digits_before_shape(alloc: Global) {
     let read = read_journal(
@@ -136,7 +136,7 @@ pub fn digits_before_shape(alloc: Global) {
     prove!(right != wrong);
 }
 
-/// A number out of range is told before a word that is no number.
+/// A number out of range is reported before a word that is no number.
 #[tactic(auto, using(crate::proofs::Read::range_before_digits))]
 pub fn range_before_digits(alloc: Global) {
     let read = read_journal(alloc, b"1 2 JRN~971 1 20000001 x~");
@@ -145,7 +145,7 @@ pub fn range_before_digits(alloc: Global) {
     prove!(right != wrong);
 }
 
-/// The fault of a later item is told first.
+/// The fault of a later item is reported first.
 #[tactic(auto, using(crate::proofs::Read::later_item_first))]
 pub fn later_item_first(alloc: Global) {
     let read = read_journal(alloc, b"1 2 JRN~971 1 x~971 1 20000001~");

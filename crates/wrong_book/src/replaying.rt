@@ -239,7 +239,7 @@ pub fn version_before_numbering(
     prove!(right != wrong);
 }
 
-/// A price of the last sheet is told where there is a sheet too many.
+/// A price of the last sheet is reported, though there is a sheet too many.
 pub fn last_sheet_before_their_number(
     alloc: Global,
     instruction: &Arc<Instruction>,

@@ -44,7 +44,7 @@ pub fn first_posting_again(walk: &Walk<'_>)
     prove!(right != wrong);
 }
 
-/// The number of a harvester's last call is told for the next one.
+/// The next call is given the number of the harvester's last one.
 pub fn next_number_of_the_last_call(walk: &Walk<'_>)
     requires { calls_of 3 (passed walk.now) ≡ 1 }
 {
@@ -93,7 +93,7 @@ pub fn passed_version_one_off<'a>(
     Ok(())
 }
 
-/// A class whose price is right is told, as the first of the row of a wrong one is.
+/// A class whose price is right is reported, such as the first in the row of a wrong one.
 pub fn wrong_price_at_its_row(walk: &Walk<'_>, prices: &[u32], wrong: usize)
     requires number { length prices.now ≡ classes walk.now.instruction }
     requires right { IsRightPriceAt walk.now prices.now wrong }
@@ -114,7 +114,7 @@ pub fn wrong_price_not_seen(walk: &Walk<'_>, prices: &[u32])
     prove!(right != wrong);
 }
 
-/// How another class stands is told, or how the class stood before: against other targets, or by other counts.
+/// The standing is that of another class, or of an earlier time: against other targets, or by other counts.
 pub fn standing_of_another_place(walk: &Walk<'_>, class: usize, wrong: &Standing)
     requires exists { class < classes walk.now.instruction }
     requires another { StandsAfter walk.now.instruction (passed walk.now) class wrong.now → ⊥ }
@@ -123,7 +123,7 @@ pub fn standing_of_another_place(walk: &Walk<'_>, class: usize, wrong: &Standing
     prove!(right != *wrong);
 }
 
-/// A price that the closure can't answer to how its class stands here, as where it is asked of how it stood before.
+/// A price that the closure can't answer to the standing of its class here, as if it were asked for an earlier one.
 pub fn prices_of_another_place<F: Fn(&Standing) -> u64>(
     alloc: Global,
     walk: &Walk<'_>,

@@ -31,7 +31,7 @@ pub fn grade_of_a_zone_is_its_start(alloc: Global, postings: &[Posting]) -> Resu
     Ok(())
 }
 
-/// An item is written without the blank between its number and its kind.
+/// An item is written without the space between its number and its kind.
 #[tactic(auto, using(crate::proofs::Texts::text_of_a_cut))]
 pub fn item_without_a_blank(alloc: Global, postings: &[Posting]) -> Result<(), Memory>
     requires { postings.now ≡ Posting.Cut zoned_cut ∷ [] }

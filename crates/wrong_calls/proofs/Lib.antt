@@ -2,3 +2,8 @@ pub mod Fits
 pub mod Statuses
 pub mod Misuse
 pub mod Turned
+pub mod Called
+pub mod Numbers
+pub mod Lines
+pub mod Ledgers
+pub mod Harvests

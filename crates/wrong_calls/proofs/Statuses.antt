@@ -19,7 +19,7 @@ tag (Ok v) = 0
 tag (Err f) = 1
 
 -- what is read isn't refused
-not_both : {V F : Type 0} (r : Result V F) (v : V) (f : F) → r ≡ Ok v → r ≡ Err f → ⊥
+pub not_both : {V F : Type 0} (r : Result V F) (v : V) (f : F) → r ≡ Ok v → r ≡ Err f → ⊥
 not_both {V} {F} r v f ok err = let e : 0 ≡ 1 = ap (λ (x : Result V F). tag x) (sym ok ∙ err) in omega (arith, e)
 
 -- a file that is read has no fault of status 1

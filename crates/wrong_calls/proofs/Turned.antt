@@ -1,14 +1,12 @@
 -- The texts of harvesters in turn are by the rule of the number.
-use Rattle.std.proofs.Common.{◌≡◌, ◌≢◌, ◌<◌, ℕ, ◌+◌, List, ◌++◌, Some, length, take, drop, inl, inr, sym, ap, subst, ◌∙◌, arith}
-use Rattle.std.proofs.lemmas.List.{take-append-le, take_all}
+use Rattle.std.proofs.Common.{◌≡◌, ◌≢◌, ℕ, ◌+◌, List, ◌++◌, Some, take, inl, inr, sym, ap, subst, ◌∙◌, arith}
 use Rattle.buck_rule.specs.declared.named.NamedRule.{NamedRule}
 use Rattle.buck_rule.specs.declared.named.NamedRule.TheVariants.{Step}
 use Rattle.buck_engine.proofs.Statuses.{never_0}
 use Rattle.buck_calls.specs.declared.turns.Texts.{Texts}
 use Rattle.buck_calls.specs.Books.{rule_of}
-use Rattle.buck_calls.specs.Room.{IsPutAs}
 use Rattle.buck_calls.specs.Turns.{ArePut, HaveTexts, IsTurned}
-use Rattle.wrong_calls.proofs.Fits.{fits_or_not, own_status}
+use Rattle.wrong_calls.proofs.Fits.{at_start, own_status}
 
 step_is : (named : NamedRule) → rule_of 2 ≡ Some named → named ≡ Step
 step_is named e = cc e
@@ -22,18 +20,6 @@ texts_by lengths bytes journal report status (inr (named, used, inl done)) is =
 texts_by lengths bytes journal report status (inr (named, used, inr (none, (fault, why, line, told)))) is =
     absurd (never_0 fault (sym told ∙ is))
 
--- they stand at the start of the room
-at_start : (items old new right : List ℕ) (status written result : ℕ) → IsPutAs items status old new written result
-    → result ≡ 0 → right ≡ take written new → right ≡ items
-at_start items old new right status written result put is taken = elim (fits_or_not (length items) (length old)) [
-  | inl fits ↦
-      taken ∙ ap (λ n. take n new) put.number_is
-      ∙ ap (λ (xs : List ℕ). take (length items) xs) (put.fits fits).0
-      ∙ take-append-le (length items) items (drop (length items) old) (omega arith)
-      ∙ take_all (length items) items (omega arith)
-  | inr small ↦ absurd (omega (arith, is, (put.too_small small).1))
-]
-
 pub another_rule : (lengths bytes old new right wrong : List ℕ) (texts : Texts) (result long : ℕ)
     → ArePut (IsTurned 2 lengths bytes) old new texts result → result ≡ 0
     → long ≡ texts.journal + texts.report → right ≡ take long new
@@ -44,5 +30,6 @@ another_rule lengths bytes old new right wrong texts result long (journal, repor
     let own = own_status (journal ++ report) status old new (texts.journal + texts.report) result
     (omega (arith, is)) put ∙ is in
     other journal report (texts_by lengths bytes journal report status answer own)
-    (sym same ∙ at_start (journal ++ report) old new right status (texts.journal + texts.report) result put is
+    (sym same ∙ at_start (journal ++ report) old new right status (texts.journal + texts.report) result put
+    (λ e. omega (arith, is, e))
     (taken ∙ ap (λ n. take n new) both))

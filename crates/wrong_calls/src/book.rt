@@ -77,7 +77,7 @@ pub fn refused_cut_shown(
     }
 }
 
-/// The position that is told of a cutting is the one behind it: the postings are counted after the cut.
+/// The position of a cutting is the one behind it: the postings are counted after the cut.
 pub fn position_one_off(
     alloc: Global,
     book: &mut Block,
@@ -126,7 +126,7 @@ pub fn looking_closes_the_book(
     prove!(right != wrong);
 }
 
-/// The number of counts that is told is one off.
+/// The number of counts is one off.
 pub fn number_of_counts_one_off(
     alloc: Global,
     book: &mut Block,

@@ -45,7 +45,7 @@ pub fn text_cut_off_at_the_room(
     prove!(!is_wrong);
 }
 
-/// The length of no text is told as one.
+/// No text is said to have a length of one.
 pub fn length_of_no_text_one_off(
     alloc: Global,
     apt: &[u8],

@@ -78,7 +78,7 @@ pub fn refused_appraisal_shown(
     }
 }
 
-/// A cutting with a reason against it is told to be worth something.
+/// A cutting with a reason against it is said to be worth something.
 pub fn refused_cutting_worth_something(
     alloc: Global,
     book: &mut Block,
@@ -90,6 +90,28 @@ pub fn refused_cutting_worth_something(
 ) {
     if buckfleet_price_of(alloc, book, felled, samples, zones, logs, appraisal) == 0 {
         let wrong = appraisal.reason != 0 && appraisal.worth != 0;
+        prove!(!wrong);
+    }
+}
+
+/// A log of the assortment of index 16 is priced, or refused for another reason, though no instruction has it.
+pub fn log_of_assortment_16_priced(
+    alloc: Global,
+    book: &mut Block,
+    felled: &Felled,
+    samples: &[u16],
+    zones: &[Zone],
+    length: u32,
+    appraisal: &mut Appraised,
+) {
+    let log = NamedLog {
+        start: 0,
+        length,
+        assortment: 16,
+    };
+    if buckfleet_price_of(alloc, book, felled, samples, zones, &[log], appraisal) == 0 {
+        let right = appraisal.reason;
+        let wrong = right != 2;
         prove!(!wrong);
     }
 }

@@ -127,7 +127,7 @@ module _ {O F : Type 0} (opens : O → List ℕ → Option F → O → Type 0) (
       e =
       omega (arith, number)
 
--- nothing of a table was written where the exit status is 4
+-- nothing of a table was written if the exit status is 4
 unlawful_unwritten : (reads : ReadsApt) (apt : Option (List ℕ)) (files : List (Option (List ℕ))) (new : List ℕ)
     (outcome : Result (Unit {0}) EngineFault)
     → ShowsTables reads apt files (Some []) (Some new) outcome → status_after outcome ≡ 4 → new ≡ []

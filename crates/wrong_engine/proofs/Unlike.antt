@@ -28,7 +28,7 @@ taken_whole k xs ys same e =
     let long : min k (length xs) ≡ length xs = sym (length-take k xs) ∙ ap length e ∙ sym same in
     sym (take_all k xs (omega (arith, long))) ∙ e
 
--- where the text of a journal was written, something was
+-- if the text of a journal was written, something was
 pub journal_written : (sheets : List (List ℕ)) (ps : List Posting) (old new : List ℕ)
     → new ≡ old ++ journal_text sheets ps
     → length new ≡ 0 → ⊥

@@ -3,7 +3,7 @@ use buck_apt::AptFault;
 use buck_engine::{EngineFault, conclude, explain, status, write_fault};
 use std::alloc::Global;
 
-/// Status 1, as after a refused file, where there are not 1 to 64 stem files.
+/// Status 1, as after a refused file, if there are not 1 to 64 stem files.
 pub fn seats_as_a_refused_file() {
     let wrong = 1;
     let right = status(&EngineFault::Seats);
@@ -17,7 +17,7 @@ pub fn conclude_status_0_after_a_fault(errors: &mut Vec<u8>) {
     prove!(right != wrong);
 }
 
-/// Status 1, as after a refused file, where the words are wrong.
+/// Status 1, as after a refused file, if the words are wrong.
 pub fn explain_usage_ends_with_1(output: &mut Vec<u8>, errors: &mut Vec<u8>) {
     let wrong = 1;
     let right = explain(output, errors, b"usage\n", true);
@@ -34,7 +34,7 @@ pub fn fault_line_without_a_field(alloc: Global) {
     }
 }
 
-/// Says that the line was written where nothing was.
+/// Says that the line was written if nothing was.
 pub fn write_fault_always_true(alloc: Global) {
     let mut line = Vec::new(alloc);
     let is_whole = write_fault(&mut line, &EngineFault::Seats);
@@ -42,7 +42,7 @@ pub fn write_fault_always_true(alloc: Global) {
     prove!(!is_wrong);
 }
 
-/// Status 0 where nothing of the help was written.
+/// Status 0 if nothing of the help was written.
 pub fn write_fault_taken_for_success(alloc: Global, errors: &mut Vec<u8>) {
     let mut output = Vec::new(alloc);
     let status = explain(&mut output, errors, b"help\n", false);

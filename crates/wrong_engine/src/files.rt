@@ -53,7 +53,7 @@ pub fn last_byte_dropped<'x>(
     prove!(right != wrong);
 }
 
-/// A stem file that can't be read is told as file 0, the instruction file.
+/// A stem file that can't be read is reported as file 0, the instruction file.
 pub fn stem_file_named_as_file_0<'x>(
     alloc: Global,
     apt: &'x [u8],

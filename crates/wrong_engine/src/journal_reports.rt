@@ -8,7 +8,7 @@ ghost use Rattle.buck_journal.specs.judging.Replay.{history_of};
 ghost use Rattle.buck_engine.specs.text.Report.{ending_of, report_of};
 
 use crate::opened::Missing;
-use buck_engine::{EngineFault, Settings, Task, run_report, serve};
+use buck_engine::{EngineFault, Nobody, Settings, Task, run_report, serve};
 use std::alloc::Global;
 
 /// The report of a journal is written that isn't lawful.
@@ -62,7 +62,7 @@ pub fn report_files_swapped(alloc: Global, output: &mut Vec<u8>) {
     };
     let mut input = b"".as_slice();
     let mut files = Missing { asked: 0 };
-    let _ = serve(alloc, &task, &mut input, &mut files, output);
+    let _ = serve(alloc, &task, &Nobody, &mut input, &mut files, output);
     let right = files.asked;
     let wrong = "stems.jrn".len();
     prove!(right != wrong);

@@ -38,7 +38,7 @@ pub fn run_task_files_swapped(alloc: Global, output: &mut Vec<u8>) {
     };
     let mut input = b"".as_slice();
     let mut files = Missing { asked: 0 };
-    let _ = serve(alloc, &task, &mut input, &mut files, output);
+    let _ = serve(alloc, &task, &Nobody, &mut input, &mut files, output);
     let right = files.asked;
     let wrong = "stems.stm".len();
     prove!(right != wrong);
@@ -52,7 +52,7 @@ pub fn check_files_swapped(alloc: Global, output: &mut Vec<u8>) {
     };
     let mut input = b"".as_slice();
     let mut files = Missing { asked: 0 };
-    let _ = serve(alloc, &task, &mut input, &mut files, output);
+    let _ = serve(alloc, &task, &Nobody, &mut input, &mut files, output);
     let right = files.asked;
     let wrong = "stems.jrn".len();
     prove!(right != wrong);
@@ -67,7 +67,7 @@ pub fn serve_fault_line_on_the_output(alloc: Global) {
     let mut input = b"".as_slice();
     let mut files = Missing { asked: 0 };
     let mut output = Vec::new(alloc);
-    let _ = serve(alloc, &task, &mut input, &mut files, &mut output);
+    let _ = serve(alloc, &task, &Nobody, &mut input, &mut files, &mut output);
     let is_said = !output.is_empty();
     prove!(!is_said);
 }
@@ -93,7 +93,7 @@ impl Open for First {
     }
 }
 
-/// A stem file that is missing is told as file 0, the instruction file.
+/// A stem file that is missing is reported as file 0, the instruction file.
 pub fn open_both_missing_stems_as_file_0(alloc: Global, output: &mut Vec<u8>) {
     let task = Task::Buck {
         apt: "pine.apt",
@@ -102,13 +102,13 @@ pub fn open_both_missing_stems_as_file_0(alloc: Global, output: &mut Vec<u8>) {
     let mut input = b"".as_slice();
     let mut files = First { is_asked: false };
     let mut errors = Vec::new(alloc);
-    let outcome = serve(alloc, &task, &mut input, &mut files, output);
+    let outcome = serve(alloc, &task, &Nobody, &mut input, &mut files, output);
     let _ = conclude(&mut errors, &outcome);
     let wrong = b"read fault 0\n".as_slice();
     prove!(errors.as_slice() != wrong);
 }
 
-/// Files are opened where there are no names, and their instruction is refused in the place of the input's.
+/// Files are opened though there are no names, and their instruction is refused in the place of the input's.
 pub fn run_task_bare_opens_files(
     alloc: Global,
     input: &[u8],
@@ -121,7 +121,7 @@ pub fn run_task_bare_opens_files(
     let mut reader = input;
     let mut files = First { is_asked: false };
     let wrong = 1;
-    let outcome = serve(alloc, &Task::Bare, &mut reader, &mut files, output);
+    let outcome = serve(alloc, &Task::Bare, &Nobody, &mut reader, &mut files, output);
     let right = conclude(errors, &outcome);
     prove!(right != wrong);
 }
@@ -150,7 +150,7 @@ impl Make for Full {
     }
 }
 
-/// The run goes on without a journal, and ends well, where its file can't be made.
+/// The run goes on without a journal, and ends well, if its file can't be made.
 pub fn journal_left_out_where_it_cannot_be_made<T: Threads + Wait + Sync>(
     rt: &T,
     alloc: Global,

@@ -1,4 +1,4 @@
-//! Wrong bodies of a bucking whose stems are cut in several threads at once, and of engines whose journal is replayed so.
+//! Wrong bodies of a bucking whose stems are cut in several threads at once, and of a check by such threads.
 ghost use Rattle.std.specs.Prelude.{◌≡◌, ◌≢◌, List, Ok};
 ghost use Rattle.buck_apt.specs.Instruction.{InstructionParts};
 ghost use Rattle.buck_apt.specs.Apt.{apt_of};
@@ -7,12 +7,11 @@ ghost use Rattle.buck_journal.specs.reading.Journal.{JournalParts, journal_of};
 ghost use Rattle.buck_journal.specs.judging.Replay.{history_of};
 ghost use Rattle.buck_stem.specs.Stem.{StemParts};
 ghost use Rattle.buck_stem.specs.file.Stm.{stm_of};
+ghost use Rattle.buck_engine.specs.run.Reading.{apt_with};
 ghost use Rattle.buck_engine.specs.text.Bucking.{CutStem, IsBucking, base_sheet, text_of};
 ghost use Rattle.wrong_engine.specs.Texts.{first_half, halves_swapped};
 
-use buck_engine::{
-    Files, Table, run_buck_in_parts, run_check_in_parts, run_table_in_parts, run_view_in_parts,
-};
+use buck_engine::{CrossCheck, SeveralThreads, run_buck_in_parts, run_check_with};
 use std::alloc::Global;
 use std::thread::Threads;
 
@@ -68,68 +67,23 @@ pub fn last_part_dropped<'x, T: Threads + Sync>(
 pub fn last_part_unjudged<'x, T: Threads + Sync>(
     rt: &T,
     alloc: Global,
+    by: &CrossCheck,
     apt: &'x [u8],
     journal: &'x [u8],
     out: &mut Vec<u8>,
 )
-    requires unlawful { (i : InstructionParts) (j : JournalParts) → apt_of apt.now ≡ Ok i → journal_of journal.now ≡ Ok j
-        → ¬ IsLawful (history_of i j) }
+    requires unlawful { (i : InstructionParts) (j : JournalParts) → apt_with by.now.settings apt.now ≡ Ok i
+        → journal_of journal.now ≡ Ok j → ¬ IsLawful (history_of i j) }
 {
     let mut instruction = apt;
     let mut postings = journal;
-    let right = run_check_in_parts(rt, alloc, Some(2), &mut instruction, &mut postings, out);
-    let is_refused = right.is_err();
-    prove!(is_refused);
-}
-
-/// The page of a journal as a lawful one's, though a part of it is not.
-pub fn page_of_a_part<'x, T: Threads + Sync>(
-    rt: &T,
-    alloc: Global,
-    apt: &'x [u8],
-    journal: &'x [u8],
-    files: &Files<'_>,
-    out: &mut Vec<u8>,
-)
-    requires unlawful { (i : InstructionParts) (j : JournalParts) → apt_of apt.now ≡ Ok i → journal_of journal.now ≡ Ok j
-        → ¬ IsLawful (history_of i j) }
-{
-    let mut instruction = apt;
-    let mut postings = journal;
-    let right = run_view_in_parts(
-        rt,
+    let right = run_check_with(
+        &SeveralThreads::of(rt, Some(2)),
         alloc,
-        Some(2),
+        by,
         &mut instruction,
         &mut postings,
-        files,
-        out,
-    );
-    let is_refused = right.is_err();
-    prove!(is_refused);
-}
-
-/// A table of a journal whose last part isn't judged.
-pub fn table_of_a_part<'x, T: Threads + Sync>(
-    rt: &T,
-    alloc: Global,
-    apt: &'x [u8],
-    journal: &'x [u8],
-    table: Table,
-    out: &mut Vec<u8>,
-)
-    requires unlawful { (i : InstructionParts) (j : JournalParts) → apt_of apt.now ≡ Ok i → journal_of journal.now ≡ Ok j
-        → ¬ IsLawful (history_of i j) }
-{
-    let mut instruction = apt;
-    let mut postings = journal;
-    let right = run_table_in_parts(
-        rt,
-        alloc,
-        Some(2),
-        &mut instruction,
-        &mut postings,
-        table,
+        &mut [],
         out,
     );
     let is_refused = right.is_err();

@@ -1,17 +1,18 @@
 //! Wrong bodies of a check that ties a journal to stem files and to a rule.
 ghost use Rattle.std.specs.Prelude.{◌≡◌, ◌≢◌, List, [], Ok};
 ghost use Rattle.buck_apt.specs.Instruction.{InstructionParts};
-ghost use Rattle.buck_apt.specs.Apt.{apt_of};
 ghost use Rattle.buck_stem.specs.Stem.{StemParts};
 ghost use Rattle.buck_stem.specs.file.Stm.{stm_of};
 ghost use Rattle.buck_journal.specs.reading.Journal.{JournalParts, journal_of};
 ghost use Rattle.buck_journal.specs.judging.Replay.{history_of};
 ghost use Rattle.buck_rule.specs.declared.named.NamedRule.TheVariants.{Linear};
+ghost use Rattle.buck_engine.specs.run.Reading.{apt_with};
 ghost use Rattle.buck_engine.specs.tie.Ties.{FollowsRule, stems_by};
 
 use crate::opened::Missing;
 use buck_engine::{
-    CheckFault, CheckTask, EngineFault, Settings, run_check_with, serve_check, status,
+    CheckFault, CheckTask, CrossCheck, EngineFault, OneThread, Settings, run_check_with,
+    serve_check, status,
 };
 use buck_rule::NamedRule;
 use std::alloc::Global;
@@ -20,24 +21,27 @@ use std::thread::Threads;
 /// Two stem files are taken for the harvesters' in the other order: the first isn't what harvester 1 cut.
 pub fn swapped_stem_files_accepted<'x>(
     alloc: Global,
+    by: &CrossCheck,
     apt: &'x [u8],
     journal: &'x [u8],
     first: &'x [u8],
     second: &'x [u8],
     out: &mut Vec<u8>,
 )
-    requires other { (i : InstructionParts) (j : JournalParts) (stems : List StemParts) → apt_of apt.now ≡ Ok i
+    requires other { (i : InstructionParts) (j : JournalParts) (stems : List StemParts)
+        → apt_with by.now.settings apt.now ≡ Ok i
         → journal_of journal.now ≡ Ok j → stm_of first.now ≡ Ok stems → stems_by 1 (history_of i j) ≢ stems }
 {
     let mut instruction = apt;
     let mut postings = journal;
     let mut stems = [first, second];
     let right = run_check_with(
+        &OneThread,
         alloc,
+        by,
         &mut instruction,
         &mut postings,
         &mut stems,
-        None,
         out,
     );
     let is_refused = right.is_err();
@@ -47,23 +51,25 @@ pub fn swapped_stem_files_accepted<'x>(
 /// A harvester without a stem file may have cut any stems.
 pub fn cut_that_no_file_has_accepted<'x>(
     alloc: Global,
+    by: &CrossCheck,
     apt: &'x [u8],
     journal: &'x [u8],
     stm: &'x [u8],
     out: &mut Vec<u8>,
 )
-    requires cut { (i : InstructionParts) (j : JournalParts) → apt_of apt.now ≡ Ok i → journal_of journal.now ≡ Ok j
-        → stems_by 2 (history_of i j) ≢ [] }
+    requires cut { (i : InstructionParts) (j : JournalParts) → apt_with by.now.settings apt.now ≡ Ok i
+        → journal_of journal.now ≡ Ok j → stems_by 2 (history_of i j) ≢ [] }
 {
     let mut instruction = apt;
     let mut postings = journal;
     let mut stems = [stm];
     let right = run_check_with(
+        &OneThread,
         alloc,
+        by,
         &mut instruction,
         &mut postings,
         &mut stems,
-        None,
         out,
     );
     let is_refused = right.is_err();
@@ -73,21 +79,27 @@ pub fn cut_that_no_file_has_accepted<'x>(
 /// The prices of another rule are taken for those of the one that was named.
 pub fn prices_of_another_rule_accepted<'x>(
     alloc: Global,
+    settings: Settings,
     apt: &'x [u8],
     journal: &'x [u8],
     out: &mut Vec<u8>,
 )
-    requires other { (i : InstructionParts) (j : JournalParts) → apt_of apt.now ≡ Ok i → journal_of journal.now ≡ Ok j
-        → ¬ FollowsRule Linear (history_of i j) }
+    requires other { (i : InstructionParts) (j : JournalParts) → apt_with settings apt.now ≡ Ok i
+        → journal_of journal.now ≡ Ok j → ¬ FollowsRule Linear (history_of i j) }
 {
+    let by = CrossCheck {
+        rule: Some(NamedRule::Linear),
+        settings,
+    };
     let mut instruction = apt;
     let mut postings = journal;
     let right = run_check_with(
+        &OneThread,
         alloc,
+        &by,
         &mut instruction,
         &mut postings,
         &mut [],
-        Some(NamedRule::Linear),
         out,
     );
     let is_refused = right.is_err();
@@ -95,16 +107,17 @@ pub fn prices_of_another_rule_accepted<'x>(
 }
 
 /// 65 stem files are accepted.
-pub fn check_of_65_stem_files_accepted(alloc: Global, out: &mut Vec<u8>) {
+pub fn check_of_65_stem_files_accepted(alloc: Global, by: &CrossCheck, out: &mut Vec<u8>) {
     let mut instruction = b"".as_slice();
     let mut postings = b"".as_slice();
     let mut stems = [b"".as_slice(); 65];
     let right = run_check_with(
+        &OneThread,
         alloc,
+        by,
         &mut instruction,
         &mut postings,
         &mut stems,
-        None,
         out,
     );
     let is_refused = right == Err(EngineFault::Seats);
@@ -114,6 +127,7 @@ pub fn check_of_65_stem_files_accepted(alloc: Global, out: &mut Vec<u8>) {
 /// A stem file is read although the journal is refused.
 pub fn stems_read_before_the_journal_is_refused<'x>(
     alloc: Global,
+    by: &CrossCheck,
     apt: &'x [u8],
     journal: &'x [u8],
     stm: &'x [u8],
@@ -123,11 +137,12 @@ pub fn stems_read_before_the_journal_is_refused<'x>(
     let mut postings = journal;
     let mut stems = [stm];
     let outcome = run_check_with(
+        &OneThread,
         alloc,
+        by,
         &mut instruction,
         &mut postings,
         &mut stems,
-        None,
         out,
     );
     let is_read = stems[0].len() != stm.len();
@@ -135,7 +150,7 @@ pub fn stems_read_before_the_journal_is_refused<'x>(
     prove!(!is_wrong);
 }
 
-/// Status 1, as after a refused file, where a stem wasn't cut.
+/// Status 1, as after a refused file, if a stem wasn't cut.
 pub fn uncut_stem_as_a_refused_file() {
     let wrong = 1;
     let uncut = CheckFault::Uncut {
@@ -154,8 +169,10 @@ pub fn tied_check_files_swapped<T: Threads + Sync>(
     output: &mut Vec<u8>,
 ) {
     let task = CheckTask {
-        rule: None,
-        settings: Settings::own(),
+        by: CrossCheck {
+            rule: None,
+            settings: Settings::own(),
+        },
         apt: "pine.apt",
         files,
         threads: Some(2),

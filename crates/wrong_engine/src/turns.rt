@@ -69,8 +69,8 @@ pub fn turns_written_before_all_is_read<'x>(alloc: Global, apt: &'x [u8], stms: 
     prove!(!is_wrong);
 }
 
-/// The report is of another order, as where a harvester cuts its second stem before another one has cut its first: no
-/// history in turn has this report.
+/// The report is of another order: a harvester cuts its second stem before another one has cut its first. No history in
+/// turn has this report.
 pub fn turns_reported_in_another_order<'x>(
     alloc: Global,
     apt: &'x [u8],

@@ -100,7 +100,7 @@ pub fn table_calls_the_writer_before_the_fault<'x>(
     prove!(!is_wrong);
 }
 
-/// A failed write is told of a page, though the journal is refused and there is no page.
+/// A failed write of a page is reported, though the journal is refused and there is no page.
 pub fn write_fault_without_a_page<'x, W: io::Write>(
     alloc: Global,
     apt: &'x [u8],
@@ -117,7 +117,7 @@ pub fn write_fault_without_a_page<'x, W: io::Write>(
     prove!(!is_write);
 }
 
-/// A failed write is told of a table, though the journal isn't lawful and there is no table.
+/// A failed write of a table is reported, though the journal isn't lawful and there is no table.
 pub fn write_fault_without_a_table<'x, W: io::Write>(
     alloc: Global,
     apt: &'x [u8],
@@ -213,7 +213,7 @@ impl Open for Firsts {
     }
 }
 
-/// A second journal that is missing is told as the first.
+/// A second journal that is missing is reported as the first.
 pub fn second_journal_missing_told_as_the_first<T: Threads + Sync>(
     rt: &T,
     alloc: Global,

@@ -1,5 +1,5 @@
 //! Wrong bodies of instructions and their reader.
-#![tactic(auto, unfolding(buck_record::specs::bytes::Record::numbers_of, buck_record::specs::bytes::Record::number_at_most, buck_record::specs::bytes::Record::item_of, buck_record::specs::bytes::Record::items_of, buck_record::specs::bytes::White::words, buck_record::specs::bytes::White::first_word, buck_record::specs::bytes::White::after_word, buck_record::specs::bytes::White::trim_start, buck_record::specs::bytes::White::trim_end, buck_record::specs::Reading::each_from, buck_record::specs::checking::Table::rest_in, buck_record::specs::checking::Table::groups_of, buck_record::specs::checking::Rules::numbers_in, buck_record::specs::checking::Check::each, buck_record::specs::checking::Check::make_each, buck_apt::specs::Apt::apt_of, buck_apt::specs::Apt::draft_in, buck_apt::specs::Apt::within_limits, buck_apt::specs::Apt::wood_of, buck_apt::specs::Apt::sizes_of, buck_apt::specs::Apt::tables_of, buck_apt::specs::Apt::group_present, buck_apt::specs::Apt::present, buck_apt::specs::Apt::group_single, buck_apt::specs::Apt::single, buck_apt::specs::Apt::numbers_or, buck_apt::specs::Apt::draft_of, buck_apt::specs::Apt::file_draft_of, buck_apt::specs::Apt::draft_range, buck_apt::specs::Apt::in_range, buck_apt::specs::Apt::draft_order, buck_apt::specs::Apt::in_order, buck_apt::specs::Apt::draft_count, buck_apt::specs::Apt::in_number, buck_apt::specs::Apt::on_module, buck_apt::specs::Apt::in_targets, buck_record::specs::writing::Written::spaced, buck_apt::specs::Text::wood_text, buck_apt::specs::Text::sizes_text, buck_apt::specs::Text::tables_text, buck_apt::specs::Text::assortment_text, buck_apt::specs::Text::text_of))]
+#![tactic(auto, unfolding(buck_record::specs::bytes::Record::numbers_of, buck_record::specs::bytes::Record::number_at_most, buck_record::specs::bytes::Record::item_of, buck_record::specs::bytes::Record::items_of, buck_record::specs::bytes::White::words, buck_record::specs::bytes::White::first_word, buck_record::specs::bytes::White::after_word, buck_record::specs::bytes::White::trim_start, buck_record::specs::bytes::White::trim_end, buck_record::specs::Reading::each_from, buck_record::specs::checking::Table::rest_in, buck_record::specs::checking::Table::groups_of, buck_record::specs::checking::Rules::numbers_in, buck_record::specs::checking::Check::each, buck_record::specs::checking::Check::make_each, buck_apt::specs::Apt::apt_of, buck_apt::specs::Apt::draft_in, buck_apt::specs::Apt::within_limits, buck_apt::specs::Apt::group_present, buck_apt::specs::Apt::present, buck_apt::specs::Apt::group_single, buck_apt::specs::Apt::single, buck_apt::specs::Apt::numbers_or, buck_apt::specs::Apt::draft_of, buck_apt::specs::Apt::file_draft_of, buck_apt::specs::Apt::draft_range, buck_apt::specs::Apt::in_range, buck_apt::specs::Apt::draft_order, buck_apt::specs::Apt::in_order, buck_apt::specs::Apt::draft_count, buck_apt::specs::Apt::in_number, buck_apt::specs::Apt::on_module, buck_apt::specs::Apt::in_targets, buck_record::specs::writing::Written::spaced, buck_apt::specs::Text::wood_text, buck_apt::specs::Text::sizes_text, buck_apt::specs::Text::tables_text, buck_apt::specs::Text::assortment_text, buck_apt::specs::Text::text_of))]
 
 ghost use Rattle.std.specs.Prelude.{◌≡◌, ◌≢◌, ◌<◌, ◌+◌, ◌*◌, length, slice_get, slice_index, sum};
 ghost use Rattle.buck_apt.specs.Instruction.{IsClass, classes_before, place_in};
@@ -107,7 +107,7 @@ pub fn classes_are_rows(alloc: Global) {
     }
 }
 
-/// A class's target is told as its price.
+/// A class's price is its target.
 pub fn price_is_target(assortment: &Assortment, row: usize, column: usize)
     requires class { (row < length assortment.now.diameters) × (column < length assortment.now.lengths) }
     requires differ { slice_index assortment.now.prices (row * length assortment.now.lengths + column)
@@ -118,7 +118,7 @@ pub fn price_is_target(assortment: &Assortment, row: usize, column: usize)
     prove!(right != wrong);
 }
 
-/// The target of the row's first column is told for each column.
+/// Each column is given the target of the row's first.
 pub fn target_of_first_column(assortment: &Assortment, row: usize, column: usize)
     requires class { (row < length assortment.now.diameters) × (column < length assortment.now.lengths) }
     requires differ { slice_index assortment.now.targets (row * length assortment.now.lengths + column)
@@ -200,7 +200,7 @@ pub fn copy_without_targets(alloc: Global, assortment: &Assortment)
     prove!(right != wrong);
 }
 
-/// Values at which four of these are told apart.
+/// Values at which four of these give different answers.
 pub fn classes_that_differ(alloc: Global) {
     let Ok(instruction) = read_apt(alloc, FOUR_CLASSES) else {
         return;

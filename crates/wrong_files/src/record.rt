@@ -2,7 +2,6 @@
 #![tactic(auto, unfolding(buck_record::specs::bytes::Record::number_of, buck_record::specs::bytes::Record::numbers_of, buck_record::specs::bytes::Record::number_at_most, buck_record::specs::bytes::Record::item_of, buck_record::specs::bytes::Record::items_of, buck_record::specs::bytes::White::words, buck_record::specs::bytes::White::first_word, buck_record::specs::bytes::White::after_word, buck_record::specs::bytes::White::trim_start, buck_record::specs::bytes::White::trim_end, buck_record::specs::Reading::each_from, buck_record::specs::checking::Table::rest_in, buck_record::specs::checking::Table::groups_of, buck_record::specs::checking::Rules::numbers_in, buck_record::specs::checking::Check::each, buck_record::specs::checking::Check::make_each))]
 
 ghost use Rattle.std.specs.Prelude.{◌≡◌, ◌≤◌, ◌+◌, ◌*◌, [], ◌∷◌, nat_le, length, IsTrue, Ok};
-ghost use Rattle.std.specs.Vec.{vec_len, vec_capacity};
 ghost use Rattle.buck_record.specs.checking.Check.{check, each, make_each};
 ghost use Rattle.buck_record.specs.Reading.{Gives, with_fault};
 ghost use Rattle.buck_record.specs.bytes.Record.{items_of};
@@ -16,9 +15,9 @@ use buck_record::rules::{
 };
 use buck_record::table::{count, front, groups, missing, rest, twice};
 use buck_record::{
-    FaultNumbers, FormFault, Group, Listed, Numbered, Piece, RecordFault, Slot, append_numbers,
-    is_done, items, next_in, number, numbers, numbers_into, pieces, pieces_at, put_after, put_line,
-    put_number, slot, two_parts, wide,
+    FaultNumbers, FormFault, Group, Listed, Numbered, Piece, RecordFault, Slot, is_done, items,
+    next_in, number, numbers, numbers_into, pieces, pieces_at, put_after, put_line, put_number,
+    slot, two_parts, wide,
 };
 use std::alloc::Global;
 
@@ -59,7 +58,7 @@ const TWO_OF_A_SLOT: [Piece<'static>; 3] = [
     },
 ];
 
-/// A piece of white bytes alone is taken for an item.
+/// A piece of whitespace alone is taken for an item.
 pub fn pieces_empty_kept(alloc: Global) {
     let right = pieces(alloc, b" ~1 2 APT");
     if let Err(fault) = right {
@@ -181,30 +180,12 @@ pub fn done_before_the_last_items() {
     prove!(right != wrong);
 }
 
-/// A colon, the byte after the 9, is read as a digit.
-pub fn ten_is_a_digit(held: &mut Vec<u16>)
-    requires { 2 * vec_len held.old + 17 ≤ 2 * vec_capacity held.old }
-{
-    let right = append_numbers(999, b"30: 300 300 300 ", held);
-    let wrong = true;
-    prove!(right != wrong);
-}
-
-/// A colon is read as a digit, into a list that is kept.
+/// A colon, the byte after the 9, is read as a digit, into a list that is kept.
 pub fn ten_is_a_digit_of_a_kept_list(held: &mut Vec<u32>) {
     let Ok(right) = numbers_into(b"30: 300 300 300 ", held) else {
         return;
     };
     let wrong = true;
-    prove!(right != wrong);
-}
-
-/// Words of other forms than one to four digits are refused.
-pub fn other_words_refused(held: &mut Vec<u16>)
-    requires { 2 * vec_len held.old + 6 ≤ 2 * vec_capacity held.old }
-{
-    let right = append_numbers(999, b"00012", held);
-    let wrong = false;
     prove!(right != wrong);
 }
 
@@ -273,7 +254,7 @@ pub fn groups_up_to_the_end(alloc: Global) {
     }
 }
 
-/// The fault comes where the test holds.
+/// The fault comes if the test holds.
 pub fn check_turned_around() {
     let right = check(true, RecordFault::Memory);
     let wrong = Err(RecordFault::Memory);
@@ -311,7 +292,7 @@ fn each_at_most_8(numbers: &[u32]) -> Result<(), RecordFault>
     each(numbers, |number| at_most_8(*number))
 }
 
-/// The fault of the last element that has one is told.
+/// The fault of the last element that has one is reported.
 pub fn each_names_the_last() {
     let right = each_at_most_8(&[8, 9, 10]);
     let wrong = Err(RecordFault::Digits { place: 10 });
@@ -346,7 +327,7 @@ pub fn is_there_only_if_twice() {
     prove!(right != wrong);
 }
 
-/// All are said to be absent where one is.
+/// All are said to be absent if one is.
 pub fn all_absent_if_one_is() {
     let right = all_absent(&[FILE, UPPER], &TWO_KINDS);
     let wrong = true;
@@ -407,7 +388,7 @@ pub fn fault_fields_with_the_number() {
     prove!(right != wrong);
 }
 
-/// A fault of an item is told by another number.
+/// A fault of an item has the number of another fault.
 pub fn numbers_of_another_fault() {
     let right = AptFault::missing(UPPER).numbers();
     let wrong: &[u64] = &[4, 915, 2];
@@ -456,7 +437,7 @@ pub fn is_rising_stands_still() {
     prove!(right != wrong);
 }
 
-/// A number is written with a zero before it in the place of the blank.
+/// A number is written with a zero before it in the place of the space.
 pub fn put_number_without_a_blank(alloc: Global) {
     let mut out = Vec::new(alloc);
     let Ok(()) = put_number(&mut out, 7) else {
@@ -466,7 +447,7 @@ pub fn put_number_without_a_blank(alloc: Global) {
     prove!(out.as_slice() != wrong);
 }
 
-/// A number that is to stand after a line feed stands after a blank.
+/// A number that is to stand after a line feed stands after a space.
 pub fn put_after_a_blank_always(alloc: Global) {
     let mut out = Vec::new(alloc);
     let Ok(()) = put_after(&mut out, b'\n', 7) else {
@@ -476,7 +457,7 @@ pub fn put_after_a_blank_always(alloc: Global) {
     prove!(out.as_slice() != wrong);
 }
 
-/// A refused number leaves its blank behind.
+/// A refused number leaves its space behind.
 pub fn put_number_refused_after_its_blank(out: &mut Vec<u8>) {
     let before = out.len();
     if put_number(out, 7).is_err() {
@@ -505,6 +486,16 @@ pub fn numbers_into_refused_keeps_the_last(held: &mut Vec<u32>) {
         let wrong = 1;
         prove!(right != wrong);
     }
+}
+
+/// A text whose second word is no number leaves nothing of the first.
+pub fn numbers_into_without_the_first(held: &mut Vec<u32>) {
+    let Ok(false) = numbers_into(b"12 9x", held) else {
+        return;
+    };
+    let right = held.len();
+    let wrong = 0;
+    prove!(right != wrong);
 }
 
 /// A line has no line feed at its end.

@@ -153,11 +153,13 @@ pub fn of_parts_number_of_16_bits(alloc: Global, stem: &Stem)
     requires { 65535 < stem.now.number }
 {
     let _valid = stem.length();
+    let Ok(samples) = Vec::from_slice(alloc, stem.samples()) else {
+        return;
+    };
     let Ok(zones) = Vec::from_slice(alloc, stem.zones()) else {
         return;
     };
-    let Ok(made) = Stem::of_parts(alloc, stem.number(), stem.species(), stem.samples(), zones)
-    else {
+    let Ok(made) = Stem::of_parts(alloc, stem.number(), stem.species(), samples, zones) else {
         return;
     };
     let right = made.number();
@@ -257,7 +259,7 @@ pub fn grade_at_start_alone(stem: &Stem, a: u32, b: u32, x: u32, wrong: u8)
     prove!(right != wrong);
 }
 
-/// The grade at the first place stands for all, where a zone begins between two samples.
+/// The grade at the first place stands for all, though a zone begins between two samples.
 pub fn grade_at_start_alone_of_a_zone(alloc: Global) {
     let Some(stem) = stem(alloc, &[300, 290], &[(50, 2)]) else {
         return;
@@ -283,7 +285,7 @@ pub fn points_without_the_butt(profile: &Profile<'_>, wrong: usize)
     prove!(right != wrong);
 }
 
-/// The diameter at an earlier point is told.
+/// The diameter is that at an earlier point.
 pub fn diameter_of_an_earlier_point(profile: &Profile<'_>, i: usize, earlier: usize)
     requires points { (earlier < i) × (i < points_of profile.now) }
     requires differ { diameter_at profile.now.stem.samples (earlier * profile.now.module)
@@ -346,7 +348,7 @@ pub fn run_start_of_an_earlier_run(profile: &Profile<'_>, i: usize, grade: u8, w
     prove!(right != wrong);
 }
 
-/// Values at which three of these are told apart.
+/// Values at which three of these give different answers.
 pub fn points_that_differ(alloc: Global) {
     let Some(stem) = stem(alloc, &[300, 280], &[]) else {
         return;

@@ -1,5 +1,5 @@
-//! Wrong bodies of how a fleet is closed. The lists that the seats kept are made by hand nowhere, so each of these looks
-//! at what was handed out, where that is unlike the history in the way that the wrong body gets wrong.
+//! Wrong bodies of how a fleet is closed. No caller can make the lists that the seats kept, so each of these looks at
+//! the lists that were handed out, if they differ from the history in the way that the wrong body gets wrong.
 ghost use Rattle.std.specs.Prelude.{◌≡◌, ◌≢◌, ◌<◌, ◌≤◌, IsTrue, length};
 ghost use Rattle.buck_book.specs.Posting.{harvester_of};
 ghost use Rattle.buck_fleet.specs.Crew.{IsCrew, parts_of};
@@ -63,7 +63,7 @@ fn is_first_one_off(closed: &Closed) -> bool
     kept[0][0].position == 0
 }
 
-/// Of two harvesters whose lists and postings differ the higher one is told.
+/// Of two harvesters whose lists and postings differ the higher one is reported.
 pub fn close_highest_harvester_told<F: Drop, L: Ledger>(
     fleet: Fleet<F, L>,
     seats: Vec<Seat<L>>,
@@ -127,7 +127,7 @@ pub fn close_one_position_off<F: Drop, L: Ledger>(fleet: Fleet<F, L>, seats: Vec
     }
 }
 
-/// Calls are told where none differ: of one harvester, with no posting and nothing kept.
+/// Different calls are reported, though none differ: of one harvester, with no posting and nothing kept.
 pub fn close_tells_calls_for_instruction<F: Drop, L: Ledger>(
     fleet: Fleet<F, L>,
     seats: Vec<Seat<L>>,
@@ -151,7 +151,7 @@ pub fn close_tells_calls_for_instruction<F: Drop, L: Ledger>(
     }
 }
 
-/// Calls are told of a history of another instruction.
+/// Different calls are reported of a history of another instruction.
 pub fn close_tells_calls_of_another_instruction<F: Drop, L: Ledger>(
     fleet: Fleet<F, L>,
     seats: Vec<Seat<L>>,

@@ -123,7 +123,7 @@ pub fn run_stopped_is_noted_after_all_was_cut<
     Ok(seats)
 }
 
-/// A fault is told although the one seat's whole list was cut.
+/// A fault is reported although the one seat's whole list was cut.
 pub fn run_stopped_after_all_was_cut<
     F: Fn(&Standing) -> u64 + Drop + Send,
     L: Ledger + Send + Sync,

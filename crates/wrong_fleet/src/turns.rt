@@ -56,7 +56,7 @@ pub fn list_after_list<F: Fn(&Standing) -> u64 + Drop>(
     Ok(())
 }
 
-/// Stems are too many where there is none.
+/// Stems are too many if there is none.
 pub fn full_at_once<F: Fn(&Standing) -> u64 + Drop>(
     alloc: Global,
     instruction: Arc<Instruction>,

@@ -185,7 +185,7 @@ pub fn capacity_before_the_stem(
     prove!(!is_full);
 }
 
-/// The stem is looked at before the harvester: harvester 65 is told that its stem is outside the limits.
+/// The stem is looked at before the harvester: harvester 65 is refused because its stem is outside the limits.
 pub fn stem_before_the_harvester(
     alloc: Global,
     kept: &mut KeptBook,

@@ -106,7 +106,7 @@ pub fn own_log_admitted_unlooked_at(
     Ok(())
 }
 
-/// No log at all is told to be worth something.
+/// No log at all is said to be worth something.
 pub fn no_logs_worth_something(
     alloc: Global,
     kept: &mut KeptBook,

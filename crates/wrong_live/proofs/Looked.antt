@@ -38,9 +38,8 @@ pub answered_one : (before after : HistoryParts) (request : List ℕ) (old new :
     → (text : List ℕ) × Appends old new text
     × (AnswersAsked before r.harvester asked text after ⊎ SaysOnly memory_line before text after)
 answered_one before after request old new r asked run line is asks =
-    let answered = run.answered in
     let all = subst (λ (lines : List (Option (List ℕ))). AnswersAll before lines run.text after)
-    (sym (sym line ∙ answered.read ∙ append-nil answered.lines)) answered.answers in (
+    (sym (sym line ∙ run.read ∙ append-nil run.lines)) run.answers in (
       run.text,
       run.written,
       elim (only_line before after run.text (Some request) all) [

@@ -11,7 +11,6 @@ only_line before after text (between, first, rest, one, last, is) = last.1 ∙ o
 pub cut_off : (before after : HistoryParts) (old new : Option (List ℕ))
     → IsLiveRun before (Some (codes "951 1 7")) old new (Ok tt) after → after ≡ before
 cut_off before after old new run =
-    let answered = run.answered in
     only_line before after run.text
     (subst (λ (lines : List (Option (List ℕ))). AnswersAll before lines run.text after)
-    (sym (answered.read ∙ append-nil answered.lines)) answered.answers)
+    (sym (run.read ∙ append-nil run.lines)) run.answers)

@@ -1,6 +1,6 @@
 -- Runs of requests by a rule, and what their statuses say.
 use Rattle.std.proofs.Common.{◌≡◌, ◌≢◌, ℕ, List, [], Option, Some, None, Result, Ok, Err, inl, inr, sym, ap, subst, ◌∙◌, arith}
-use Rattle.std.specs.Option.{option_map}
+use Rattle.std.specs.Result.{result_and}
 use Rattle.buck_apt.specs.Instruction.{InstructionParts}
 use Rattle.buck_apt.specs.Settings.{with_settings}
 use Rattle.buck_rule.specs.declared.named.NamedRule.{NamedRule}
@@ -19,7 +19,7 @@ use Rattle.buck_engine.proofs.Statuses.{never_0}
 use Rattle.buck_live.specs.declared.serving.LiveTask.{LiveTask}
 use Rattle.buck_cutter.specs.Cut.{StaysByRule, opening}
 use Rattle.buck_live.specs.Live.{IsLiveRun}
-use Rattle.buck_live.specs.Serving.{AnswersLive, IsLive, KeepsJournal, RunsApt, RunsLive, first_fault}
+use Rattle.buck_live.specs.Serving.{AnswersLive, IsLive, KeepsJournal, RunsApt, RunsLive, RunsMade}
 
 -- the journal of a run is that of a history by the rule that it was opened with
 pub another_rule : {F : Type 0} (g : Calls F) (opened after : BookParts F) (rule : F) (i : InstructionParts)
@@ -45,7 +45,7 @@ kept_1 OfJournal h fault (inr (write, k)) e =
 run_1 : (before after : HistoryParts) (input old new : Option (List ℕ)) (ran : Result (Unit {0}) EngineFault)
     → IsLiveRun before input old new ran after → status_after ran ≡ 1 → ⊥
 run_1 before after input old new (Ok u) run e = omega (arith, e)
-run_1 before after input old new (Err fault) (inl (read, run)) e =
+run_1 before after input old new (Err fault) (inl (read, left, run)) e =
     let is : 5 ≡ 1 = ap (λ f. status_of f) (sym read) ∙ e in omega (arith, is)
 run_1 before after input old new (Err fault) (inr (write, run)) e =
     let is : 5 ≡ 1 = ap (λ f. status_of f) (sym write) ∙ e in omega (arith, is)
@@ -53,7 +53,7 @@ run_1 before after input old new (Err fault) (inr (write, run)) e =
 first_1 : (OfJournal : OfWriter) (before after : HistoryParts) (input old new : Option (List ℕ))
     (kept ran : Result (Unit {0}) EngineFault)
     → KeepsJournal OfJournal after kept → IsLiveRun before input old new ran after
-    → status_after (first_fault kept ran) ≡ 1 → ⊥
+    → status_after (result_and kept ran) ≡ 1 → ⊥
 first_1 OfJournal before after input old new (Ok u) ran k run e = run_1 before after input old new ran run e
 first_1 OfJournal before after input old new (Err fault) ran k run e = kept_1 OfJournal after fault k e
 
@@ -64,7 +64,7 @@ live_1 ByRule i input OfJournal old new outcome live e =
     first_1 OfJournal (opening i) live.history input old new live.kept live.ran live.journal live.run
     (ap (λ o. status_after o) (sym live.outcome_is) ∙ e)
 
--- where the status is 1, nothing was read
+-- if the status is 1, nothing was read
 unread_1 : (task : LiveTask) (apt input : Option (List ℕ)) (Unread : Type 0) (OfJournal : OfWriter)
     (old new : Option (List ℕ)) (outcome : Result (Unit {0}) EngineFault)
     → AnswersLive task apt input Unread OfJournal old new outcome → status_after outcome ≡ 1 → Unread
@@ -72,19 +72,24 @@ unread_1 task apt input Unread OfJournal old new outcome (inl refused) e = refus
 unread_1 task apt input Unread OfJournal old new outcome (inr opened) e =
     absurd (live_1 _ _ input OfJournal old new outcome opened.live e)
 
-unread_apt : {O F M : Type 0} (makes : O → List ℕ → Option M → O → Type 0) (held : F → Option (List ℕ))
-    (contents : M → Option (List ℕ)) (start end : O) (task : LiveTask) (journal : Option (List ℕ))
-    (opened : Result (F × List F) EngineFault) (input : Option (List ℕ)) (Unread : Type 0) (old new : Option (List ℕ))
+unread_made : {M : Type 0} (contents : M → Option (List ℕ)) (task : LiveTask) (apt input : Option (List ℕ))
+    (Unread : Type 0) (made : Result (Option M) EngineFault) (old new : Option (List ℕ))
     (outcome : Result (Unit {0}) EngineFault)
-    → RunsApt makes held contents start end task journal opened input Unread old new outcome
+    → RunsMade contents task apt input Unread made old new outcome → status_after outcome ≡ 1 → Unread
+unread_made contents task apt input Unread (Err fault) old new outcome runs e = runs.1
+unread_made contents task apt input Unread (Ok None) old new outcome runs e =
+    unread_1 task apt input Unread _ old new outcome runs e
+unread_made contents task apt input Unread (Ok (Some file)) old new outcome (left, runs) e =
+    unread_1 task apt input Unread _ old new outcome runs e
+
+unread_apt : {O F M : Type 0} (makes : O → List ℕ → Option M → O → Type 0) (held : F → Option (List ℕ))
+    (contents : M → Option (List ℕ)) (start end : O) (task : LiveTask) (opened : Result (F × List F) EngineFault)
+    (input : Option (List ℕ)) (Unread : Type 0) (old new : Option (List ℕ)) (outcome : Result (Unit {0}) EngineFault)
+    → RunsApt makes held contents start end task opened input Unread old new outcome
     → status_after outcome ≡ 1 → Unread
-unread_apt makes held contents start end task journal (Err fault) input Unread old new outcome runs e = runs.2
-unread_apt makes held contents start end task None (Ok files) input Unread old new outcome runs e =
-    unread_1 task _ input Unread _ old new outcome runs.1 e
-unread_apt makes held contents start end task (Some name) (Ok files) input Unread old new outcome
-    (None, made, runs) e = runs.1
-unread_apt makes held contents start end task (Some name) (Ok files) input Unread old new outcome
-    (Some file, made, runs) e = unread_1 task _ input Unread _ old new outcome runs.1 e
+unread_apt makes held contents start end task (Err fault) input Unread old new outcome runs e = runs.2
+unread_apt makes held contents start end task (Ok files) input Unread old new outcome (made, making, runs) e =
+    unread_made contents task _ input Unread made old new outcome runs e
 
 pub unread : {O F M : Type 0} (opens : O → List ℕ → Option F → O → Type 0)
     (makes : O → List ℕ → Option M → O → Type 0) (held : F → Option (List ℕ)) (contents : M → Option (List ℕ))
@@ -93,10 +98,9 @@ pub unread : {O F M : Type 0} (opens : O → List ℕ → Option F → O → Typ
     → RunsLive opens makes held contents start end task input Unread old new outcome
     → status_after outcome ≡ 1 → Unread
 unread opens makes held contents start end task input Unread old new outcome runs e =
-    unread_apt makes held contents runs.between end task (option_map (λ s. s.now) task.journal) runs.opened
-    input Unread old new outcome runs.runs e
+    unread_apt makes held contents runs.between end task runs.opened input Unread old new outcome runs.runs e
 
--- where it is 0, all requests were answered by the task's rule
+-- if it is 0, all requests were answered by the task's rule
 abbrev AnsweredBy : NamedRule → Option (List ℕ) → Option (List ℕ) → Option (List ℕ) → Type 0
 AnsweredBy rule input old new =
     (i : InstructionParts) × (h : HistoryParts) × FollowsRule rule h × IsLiveRun (opening i) input old new (Ok tt) h
@@ -105,7 +109,7 @@ fault_0 : (outcome : Result (Unit {0}) EngineFault) (fault : EngineFault) → ou
     → status_after outcome ≡ 0 → ⊥
 fault_0 outcome fault is e = never_0 fault (ap (λ o. status_after o) (sym is) ∙ e)
 
-first_0 : (kept ran : Result (Unit {0}) EngineFault) → status_after (first_fault kept ran) ≡ 0 → ran ≡ Ok tt
+first_0 : (kept ran : Result (Unit {0}) EngineFault) → status_after (result_and kept ran) ≡ 0 → ran ≡ Ok tt
 first_0 (Ok u) (Ok tt) e = λ n. Ok tt
 first_0 (Ok u) (Err fault) e = absurd (never_0 fault e)
 first_0 (Err fault) ran e = absurd (never_0 fault e)
@@ -126,20 +130,27 @@ answered_0 task apt input Unread OfJournal old new outcome (inr opened) e =
       subst (λ (r : Result (Unit {0}) EngineFault). IsLiveRun (opening i) input old new r live.history) ran live.run,
     )
 
-answered_apt : {O F M : Type 0} (makes : O → List ℕ → Option M → O → Type 0) (held : F → Option (List ℕ))
-    (contents : M → Option (List ℕ)) (start end : O) (task : LiveTask) (journal : Option (List ℕ))
-    (opened : Result (F × List F) EngineFault) (input : Option (List ℕ)) (Unread : Type 0) (old new : Option (List ℕ))
+answered_made : {M : Type 0} (contents : M → Option (List ℕ)) (task : LiveTask) (apt input : Option (List ℕ))
+    (Unread : Type 0) (made : Result (Option M) EngineFault) (old new : Option (List ℕ))
     (outcome : Result (Unit {0}) EngineFault)
-    → RunsApt makes held contents start end task journal opened input Unread old new outcome
-    → status_after outcome ≡ 0 → AnsweredBy task.rule input old new
-answered_apt makes held contents start end task journal (Err fault) input Unread old new outcome runs e =
+    → RunsMade contents task apt input Unread made old new outcome → status_after outcome ≡ 0
+    → AnsweredBy task.rule input old new
+answered_made contents task apt input Unread (Err fault) old new outcome runs e =
     absurd (fault_0 outcome fault runs.0 e)
-answered_apt makes held contents start end task None (Ok files) input Unread old new outcome runs e =
-    answered_0 task _ input Unread _ old new outcome runs.1 e
-answered_apt makes held contents start end task (Some name) (Ok files) input Unread old new outcome
-    (None, made, runs) e = absurd (fault_0 outcome _ runs.0 e)
-answered_apt makes held contents start end task (Some name) (Ok files) input Unread old new outcome
-    (Some file, made, runs) e = answered_0 task _ input Unread _ old new outcome runs.1 e
+answered_made contents task apt input Unread (Ok None) old new outcome runs e =
+    answered_0 task apt input Unread _ old new outcome runs e
+answered_made contents task apt input Unread (Ok (Some file)) old new outcome (left, runs) e =
+    answered_0 task apt input Unread _ old new outcome runs e
+
+answered_apt : {O F M : Type 0} (makes : O → List ℕ → Option M → O → Type 0) (held : F → Option (List ℕ))
+    (contents : M → Option (List ℕ)) (start end : O) (task : LiveTask) (opened : Result (F × List F) EngineFault)
+    (input : Option (List ℕ)) (Unread : Type 0) (old new : Option (List ℕ)) (outcome : Result (Unit {0}) EngineFault)
+    → RunsApt makes held contents start end task opened input Unread old new outcome
+    → status_after outcome ≡ 0 → AnsweredBy task.rule input old new
+answered_apt makes held contents start end task (Err fault) input Unread old new outcome runs e =
+    absurd (fault_0 outcome fault runs.0 e)
+answered_apt makes held contents start end task (Ok files) input Unread old new outcome (made, making, runs) e =
+    answered_made contents task _ input Unread made old new outcome runs e
 
 pub answered : {O F M : Type 0} (opens : O → List ℕ → Option F → O → Type 0)
     (makes : O → List ℕ → Option M → O → Type 0) (held : F → Option (List ℕ)) (contents : M → Option (List ℕ))
@@ -148,5 +159,4 @@ pub answered : {O F M : Type 0} (opens : O → List ℕ → Option F → O → T
     → RunsLive opens makes held contents start end task input Unread old new outcome
     → status_after outcome ≡ 0 → AnsweredBy task.rule input old new
 answered opens makes held contents start end task input Unread old new outcome runs e =
-    answered_apt makes held contents runs.between end task (option_map (λ s. s.now) task.journal) runs.opened
-    input Unread old new outcome runs.runs e
+    answered_apt makes held contents runs.between end task runs.opened input Unread old new outcome runs.runs e

@@ -1,5 +1,5 @@
 //! Wrong bodies of requests.
-#![tactic(auto, unfolding(buck_record::specs::bytes::Record::numbers_of, buck_record::specs::bytes::Record::number_at_most, buck_record::specs::bytes::Record::item_of, buck_record::specs::bytes::Record::items_of, buck_record::specs::bytes::White::words, buck_record::specs::bytes::White::first_word, buck_record::specs::bytes::White::after_word, buck_record::specs::bytes::White::trim_start, buck_record::specs::bytes::White::trim_end, buck_record::specs::Reading::each_from, buck_record::specs::checking::Table::rest_in, buck_record::specs::checking::Rules::numbers_in, buck_live::specs::Request::request_of, buck_live::specs::Request::requested, buck_live::specs::Request::present, buck_live::specs::Request::single, buck_live::specs::Request::named_harvester, buck_live::specs::Request::asked_in, buck_live::specs::Request::targets_in))]
+#![tactic(auto, unfolding(buck_record::specs::bytes::Record::numbers_of, buck_record::specs::bytes::Record::number_at_most, buck_record::specs::bytes::Record::item_of, buck_record::specs::bytes::Record::items_of, buck_record::specs::bytes::White::words, buck_record::specs::bytes::White::first_word, buck_record::specs::bytes::White::after_word, buck_record::specs::bytes::White::trim_start, buck_record::specs::bytes::White::trim_end, buck_record::specs::Reading::each_from, buck_record::specs::checking::Table::rest_in, buck_record::specs::checking::Rules::numbers_in, buck_live::specs::Request::request_of, buck_live::specs::Request::requested, buck_live::specs::Request::present, buck_live::specs::Request::single, buck_live::specs::Request::harvester_in, buck_live::specs::Request::asked_in))]
 
 ghost use Rattle.std.specs.Prelude.{◌≡◌, ◌≢◌, [], Some, Ok};
 ghost use Rattle.buck_apt.specs.Instruction.{InstructionParts};
@@ -58,7 +58,7 @@ pub fn refused_request_changes_the_history<F: Fn(&Standing) -> u64 + Drop>(
     }
 }
 
-/// The journal is that of another history, as where the last request is left out.
+/// The journal is that of another history, such as one without the last request.
 pub fn journal_of_other_requests<F: Drop>(alloc: Global, live: &Live<F>, wrong: &[u8])
     requires differ { wrong.now ≢ journal_text live.now.history.sheets live.now.history.postings }
 {

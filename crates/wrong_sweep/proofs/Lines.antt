@@ -22,7 +22,7 @@ use Rattle.buck_sweep.specs.Sweep.{AreLines, IsLineOver, IsSweepRun, IsTable}
 use Rattle.buck_sweep.specs.Table.{IsLine, apart_of, back_of, cell, cells, head_line, line_of, volumes_of, wholes_of}
 use Rattle.wrong_sweep.specs.Texts.{HasInstead, StandsIn, Wrongs, own_run}
 
--- the table that a run wrote, where it ended well
+-- the table that a run wrote, if it ended well
 table : (cs : List Combination) (apt : Option (List ℕ)) (stms : List (Option (List ℕ))) (old text : List ℕ)
     (r : Result (Unit {0}) EngineFault) (u : Unit {0})
     → IsSweepRun cs apt stms (Some old) (Some text) r → old ≡ [] → r ≡ Ok u → IsTable cs apt stms text

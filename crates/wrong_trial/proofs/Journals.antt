@@ -3,7 +3,7 @@ use Rattle.std.proofs.Common.{◌≡◌, ◌≢◌, ◌<◌, ℕ, List, [], ◌�
 use Rattle.std.specs.Result.{is_err}
 use Rattle.buck_apt.specs.Apt.{apt_of}
 use Rattle.buck_apt.specs.Instruction.{InstructionParts}
-use Rattle.buck_apt.specs.Settings.{with_settings}
+use Rattle.buck_apt.specs.Settings.{SettingsParts, with_settings}
 use Rattle.buck_book.specs.History.{IsLawful}
 use Rattle.buck_journal.specs.reading.Journal.{JournalParts, journal_of}
 use Rattle.buck_journal.specs.judging.Replay.{history_of}
@@ -16,7 +16,6 @@ use Rattle.buck_engine.specs.text.Written.{WritesText}
 use Rattle.buck_terms.specs.declared.fault.TermsFault.{TermsFault}
 use Rattle.buck_terms.specs.declared.fault.TermsFault.TheVariants.{Run}
 use Rattle.buck_terms.specs.Telling.{WritesTerms}
-use Rattle.buck_ledger.specs.declared.task.AppraiseTask.{AppraiseTask}
 use Rattle.buck_ledger.specs.declared.task.CompareTask.{CompareTask}
 use Rattle.buck_ledger.specs.declared.appraisal.Appraisal.{Appraisal}
 use Rattle.buck_ledger.specs.Appraisal.{IsAppraisal}
@@ -32,16 +31,16 @@ of_one i [] journal have lawful un = omega (arith, have.one_each)
 of_one i (j ∷ []) journal have lawful un = un j (have.each 0 j refl).1 (lawful 0 j (omega arith))
 of_one i (j ∷ k ∷ more) journal have lawful un = omega (arith, have.one_each)
 
-pub not_appraised : (task : AppraiseTask) (apt journal : List ℕ) (own : Option (List ℕ) × ℕ)
+pub not_appraised : (settings : SettingsParts) (apt journal : List ℕ) (own : Option (List ℕ) × ℕ)
     (old new : Option (List ℕ)) (r : Result (Unit {0}) TermsFault)
-    → WritesTerms (AnswersAppraise task (Some apt) (Some journal ∷ []) own) old new r → is_err r ≡ false
-    → ((i : InstructionParts) (j : JournalParts) → apt_with task.settings apt ≡ Ok i → journal_of journal ≡ Ok j
+    → WritesTerms (AnswersAppraise settings (Some apt) (Some journal ∷ []) own) old new r → is_err r ≡ false
+    → ((i : InstructionParts) (j : JournalParts) → apt_with settings apt ≡ Ok i → journal_of journal ≡ Ok j
     → IsLawful (history_of i j) → ⊥) → ⊥
-not_appraised task apt journal own old new (Ok v) run well un =
+not_appraised settings apt journal own old new (Ok v) run well un =
     let a = run.1 in
     of_one a.instruction a.journals journal a.journals_say a.lawful
     (λ j is lawful. un a.instruction j a.apt_says.1 is lawful)
-not_appraised task apt journal own old new (Err e) run well un = absurd (cc well)
+not_appraised settings apt journal own old new (Err e) run well un = absurd (cc well)
 
 -- no fault of a file is that of a journal that isn't lawful
 not_journal : (b : Bool) (n : ℕ) (why : _) (w : _) → Replay why ≡ cond b (Journal w) (JournalOf n w) → ⊥
@@ -60,15 +59,15 @@ not_of_files apt files why (inr (ok, inl j)) = elim j.is_fault [
 ]
 not_of_files apt files why (inr (ok, inr full)) = absurd (cc full.full)
 
--- a journal isn't told where the owner's instruction is refused
-pub owner_first : (task : AppraiseTask) (apt : Option (List ℕ)) (files : List (Option (List ℕ))) (own : List ℕ)
+-- a journal isn't reported if the owner's instruction is refused
+pub owner_first : (settings : SettingsParts) (apt : Option (List ℕ)) (files : List (Option (List ℕ))) (own : List ℕ)
     (number : ℕ) (old new : Option (List ℕ)) (r : Result (Unit {0}) TermsFault) (why : _)
-    → WritesTerms (AnswersAppraise task apt files (Some own, number)) old new r → r ≡ Err (Run (Replay why))
+    → WritesTerms (AnswersAppraise settings apt files (Some own, number)) old new r → r ≡ Err (Run (Replay why))
     → ((i : InstructionParts) → apt_of own ≢ Ok i) → ⊥
-owner_first task apt files own number old new r why run is refused =
-    told (subst (λ (x : Result (Unit {0}) TermsFault). WritesTerms (AnswersAppraise task apt files (Some own, number))
+owner_first settings apt files own number old new r why run is refused =
+    told (subst (λ (x : Result (Unit {0}) TermsFault). WritesTerms (AnswersAppraise settings apt files (Some own, number))
     old new x) is run).0 where
-      told : IsAppraiseFault task apt files (Some own, number) (Run (Replay why)) → ⊥
+      told : IsAppraiseFault settings apt files (Some own, number) (Run (Replay why)) → ⊥
       told (inl (e, named, several)) =
           let same : Replay why ≡ e = cc named in
           not_of_files apt files why (subst (λ (x : EngineFault). IsSeveralFault apt files x) (sym same) several)
@@ -94,15 +93,15 @@ compared_two task apt first second old new (Ok v) run well never =
 compared_two task apt first second old new (Err e) run well never = absurd (cc well)
 
 -- no text of an appraisal is one without its line of all
-pub without_total : (task : AppraiseTask) (apt : Option (List ℕ)) (files : List (Option (List ℕ))) (own : List ℕ)
+pub without_total : (settings : SettingsParts) (apt : Option (List ℕ)) (files : List (Option (List ℕ))) (own : List ℕ)
     (number : ℕ) (old text wrong : List ℕ) (r : Result (Unit {0}) TermsFault) (u : Unit {0})
-    → WritesTerms (AnswersAppraise task apt files (Some own, number)) (Some old) (Some text) r → old ≡ [] → r ≡ Ok u
+    → WritesTerms (AnswersAppraise settings apt files (Some own, number)) (Some old) (Some text) r → old ≡ [] → r ≡ Ok u
     → ((owner : InstructionParts) (js : List JournalParts) (p : Appraisal) → apt_of own ≡ Ok owner
     → HaveJournals files js → IsAppraisal owner (postings_of js) p
     → StandsIn (whole_line (codes "total") None p.total) wrong → ⊥)
     → text ≡ wrong → ⊥
 unfolding appraisal_text
-without_total task apt files own number old text wrong (Ok v) u run none well other same =
+without_total settings apt files own number old text wrong (Ok v) u run none well other same =
     let a = run.1 in
     let p = a.appraisal in
     let line = whole_line (codes "total") None p.total in
@@ -115,4 +114,4 @@ without_total task apt files own number old text wrong (Ok v) u run none well ot
     ∙ append_assoc columns (of ++ each) line ∙ ap (λ (x : List ℕ). columns ++ x) (append_assoc of each line)) in
     other a.owner a.journals p a.own_says.1 a.journals_say a.is_appraisal
     (subst (λ (x : List ℕ). StandsIn line x) same (columns ++ (of ++ each), [], whole))
-without_total task apt files own number old text wrong (Err e) u run none well other same = absurd (cc well)
+without_total settings apt files own number old text wrong (Err e) u run none well other same = absurd (cc well)

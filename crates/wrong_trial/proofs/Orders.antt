@@ -15,7 +15,7 @@ lengths state (xs ∷ more) =
     ap (λ n. n ∷ map (λ l. length l) (order_of (state_after (length xs) state) more)) long
     ∙ ap (λ ns. length xs ∷ ns) (lengths (state_after (length xs) state) more)
 
--- where elements are looked at by a function, there are as many
+-- a function over elements keeps the number of them
 sizes : {A X Y : Type 0} (items : A → List X) (f : X → Y) → (xs : List A)
     → map (λ l. length l) (map (λ a. map f (items a)) xs) ≡ map (λ a. length (items a)) xs
 sizes items f [] = refl

@@ -1,4 +1,4 @@
--- What stands in a table of trials, and which fault is told.
+-- What stands in a table of trials, and which fault is reported.
 use Rattle.std.proofs.Common.{◌≡◌, ◌≢◌, ◌⊎◌, ℕ, zero, suc, List, [], ◌∷◌, ◌++◌, inl, inr, Option, Some, None, Result, Ok, Err, codes, sym, ap, subst, ◌∙◌, append_assoc, append-nil, arith}
 use Rattle.std.specs.Prelude.{slice_get}
 use Rattle.std.specs.declared.sync.Arc.{Arc}
@@ -27,7 +27,7 @@ use Rattle.buck_trial.specs.Inputs.{IsTargetsStop, SaysInput}
 use Rattle.buck_trial.specs.Trial.{AreAllDrawn, AreSpreads, IsBestFor, IsTrial, IsTrialLine, IsTrialRun, drawn_head, starts_of}
 use Rattle.wrong_trial.specs.Texts.{StandsIn, own_run}
 
--- the table that a run wrote, where it ended well
+-- the table that a run wrote, if it ended well
 table : (cs : List Combination) (draws : Option Draws) (apt : Option (List ℕ)) (stms : List (Option (List ℕ)))
     (targets : Option (Option (List ℕ) × ℕ)) (old text : List ℕ) (r : Result (Unit {0}) TermsFault) (u : Unit {0})
     → IsTrialRun cs draws apt stms targets (Some old) (Some text) r → old ≡ [] → r ≡ Ok u
@@ -118,7 +118,7 @@ without_targets rule cs draws apt stm file old text wrong r u run none well thes
     other t.says.own wanted ran.history of.own t.says.apt_says.1 says.1 (ran.instruction ∙ is) ran.is_line
     (subst (λ (x : List ℕ). StandsIn of.own x) same (within of.own line text at_front in_text))
 
--- a file of targets isn't told where a stem file is refused
+-- a file of targets isn't reported if a stem file is refused
 pub targets_not_told : (cs : List Combination) (draws : Option Draws) (apt : Option (List ℕ)) (stm : List ℕ)
     (targets : Option (Option (List ℕ) × ℕ)) (old new : Option (List ℕ)) (r : Result (Unit {0}) TermsFault) (why : _)
     → IsTrialRun cs draws apt (Some stm ∷ []) targets old new r → r ≡ Err (Targets why)

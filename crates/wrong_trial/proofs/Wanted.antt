@@ -50,7 +50,7 @@ module _ (rule : NamedRule) (settings : SettingsParts) (draws : Option Draws) (a
   abbrev IsRun : Result (Unit {0}) TermsFault → Type 0
   IsRun outcome = WritesTerms (AnswersWishes rule settings draws apt stms targets) (Some old) (Some text) outcome
 
-  -- the table that a run wrote, where it ended well
+  -- the table that a run wrote, if it ended well
   table : (outcome : Result (Unit {0}) TermsFault) → IsRun outcome → old ≡ [] → outcome ≡ Ok u
       → IsWishesTable rule settings draws apt stms targets text
   table (Ok v) run none well =

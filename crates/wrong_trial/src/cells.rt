@@ -37,7 +37,7 @@ pub fn spread_by_size_alone() {
     }
 }
 
-/// Where no change is there, there is a spread, as of zeros.
+/// If there is no change, there is a spread, as of zeros.
 pub fn spread_of_nothing() {
     let right = spread_of(&[None, None]);
     prove!(right.is_none());
@@ -62,7 +62,7 @@ pub fn change_without_sign(alloc: Global) {
     }
 }
 
-/// Where there is no spread, one cell is left empty, and not three.
+/// If there is no spread, one cell is left empty, and not three.
 pub fn absent_spread_as_one_cell(alloc: Global) {
     let mut right = Vec::new(alloc);
     if let Ok(()) = put_spread(&mut right, None) {

@@ -26,7 +26,7 @@ pub fn below_by_the_state_alone() {
     prove!(right != wrong);
 }
 
-/// The generator stays where it was, and the same number is drawn again.
+/// The generator doesn't move, and the same number is drawn again.
 pub fn below_keeps_the_generator() {
     let mut random = SplitMix64::seed_from_u64(0);
     let _first = below(&mut random, 1000);
@@ -45,7 +45,7 @@ pub fn shuffle_from_the_first_place_up() {
     prove!(right != wrong);
 }
 
-/// No element may stay where it is, as in Sattolo's shuffle: of 1, 2, 3, 4 it begins with 2, from seed 0.
+/// No element may keep its place, as in Sattolo's shuffle: of 1, 2, 3, 4 it begins with 2, from seed 0.
 pub fn shuffle_leaves_nothing_in_its_place() {
     let mut random = SplitMix64::seed_from_u64(0);
     let mut list: [u8; 4] = [1, 2, 3, 4];
@@ -107,7 +107,7 @@ pub fn order_over_all_files_at_once(
     }
 }
 
-/// The generator begins anew with each list: from state 0 the first of two stems stays the first in the list of the
+/// The generator starts again with each list: from state 0 the first of two stems stays the first in the list of the
 /// first file, and not in that of the second.
 pub fn order_of_each_file_from_the_same_state(
     alloc: Global,

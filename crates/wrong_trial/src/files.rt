@@ -15,7 +15,7 @@ use buck_trial::{Opened, OwnedFiles, TrialTask, run_owned};
 use std::alloc::Global;
 use std::thread::Threads;
 
-/// Behind three other files, the last is told as file 4: the instruction is counted as file 1.
+/// Behind three other files, the last is numbered file 4: the instruction is counted as file 1.
 pub fn last_file_counted_from_1<O: Open>(opener: &mut O, name: &str) {
     if let Ok((_, right)) = open_last(opener, name, 3) {
         let wrong = 4;
@@ -29,7 +29,7 @@ pub fn file_not_named_refused<O: Open>(opener: &mut O) {
     prove!(right.is_ok());
 }
 
-/// A file of targets that can't be read is told as the instruction file.
+/// A file of targets that can't be read is reported as the instruction file.
 pub fn targets_file_told_as_file_0(alloc: Global, targets: &[u8], instruction: &Instruction) {
     let mut reader = targets;
     let outcome = read_wanted(alloc, &mut reader, 3, instruction);
@@ -37,7 +37,7 @@ pub fn targets_file_told_as_file_0(alloc: Global, targets: &[u8], instruction: &
     prove!(!is_wrong);
 }
 
-/// An owner's instruction that is refused is told as the instruction.
+/// An owner's instruction that is refused is reported as the instruction.
 pub fn own_told_as_the_instruction(alloc: Global, own: &[u8], instruction: &Instruction) {
     let mut reader = own;
     let outcome = read_own(alloc, &mut reader, 3, instruction);
@@ -68,7 +68,7 @@ pub fn memory_as_refused_targets() {
     prove!(right != wrong);
 }
 
-/// A fault of targets is told as one of the instruction.
+/// A fault of targets is reported as one of the instruction.
 pub fn targets_told_as_the_instruction(alloc: Global) {
     let mut right = Vec::new(alloc);
     let fault = TermsFault::Targets(TargetsFault::Range { at: 7 });
@@ -78,7 +78,7 @@ pub fn targets_told_as_the_instruction(alloc: Global) {
     }
 }
 
-/// The place of a word isn't told.
+/// The place of a word is left out.
 #[tactic(auto, using(std::proofs::lemmas::Fmt::decimal_digit))]
 pub fn place_left_out(alloc: Global) {
     let mut right = Vec::new(alloc);
@@ -121,7 +121,7 @@ fn opened<'x>(
     })
 }
 
-/// A contract that is refused is told, though the file of targets has none for the instruction.
+/// A contract that is refused is reported, though the file of targets has none for the instruction.
 pub fn contract_told_before_the_targets<'x, T: Threads + Sync>(
     rt: &T,
     alloc: Global,

@@ -15,7 +15,7 @@ ghost use Rattle.buck_ledger.specs.Text.{whole_line};
 ghost use Rattle.buck_ledger.specs.declared.appraisal.Appraisal.{Appraisal};
 ghost use Rattle.wrong_trial.specs.Texts.{StandsIn};
 
-use buck_engine::EngineFault;
+use buck_engine::{EngineFault, SeveralThreads};
 use buck_ledger::{AppraiseTask, CompareTask, Opened, run_appraise, run_compare};
 use buck_terms::TermsFault;
 use std::alloc::Global;
@@ -59,12 +59,18 @@ pub fn appraisal_of_an_unlawful_journal<'x, T: Threads + Sync>(
     let Some(files) = opened(alloc, apt, journal, own) else {
         return;
     };
-    let right = run_appraise(rt, alloc, task, files, out);
+    let right = run_appraise(
+        &SeveralThreads::of(rt, task.threads),
+        alloc,
+        &task.settings,
+        files,
+        out,
+    );
     let is_refused = right.is_err();
     prove!(is_refused);
 }
 
-/// A journal is replayed, and told, before an owner's instruction is refused.
+/// A journal is replayed, and its fault reported, before an owner's instruction is refused.
 pub fn journal_told_before_the_owners_instruction<'x, T: Threads + Sync>(
     rt: &T,
     alloc: Global,
@@ -79,7 +85,13 @@ pub fn journal_told_before_the_owners_instruction<'x, T: Threads + Sync>(
     let Some(files) = opened(alloc, apt, journal, own) else {
         return;
     };
-    let outcome = run_appraise(rt, alloc, task, files, out);
+    let outcome = run_appraise(
+        &SeveralThreads::of(rt, task.threads),
+        alloc,
+        &task.settings,
+        files,
+        out,
+    );
     if let Err(TermsFault::Run(EngineFault::Replay(_why))) = outcome {
         let is_told = true;
         prove!(!is_told);
@@ -94,7 +106,13 @@ pub fn appraisal_written_before_the_fault<'x, T: Threads + Sync>(
     files: Opened<&'x [u8]>,
 ) {
     let mut out = Vec::new(alloc);
-    let outcome = run_appraise(rt, alloc, task, files, &mut out);
+    let outcome = run_appraise(
+        &SeveralThreads::of(rt, task.threads),
+        alloc,
+        &task.settings,
+        files,
+        &mut out,
+    );
     let is_wrong = !out.is_empty()
         && matches!(outcome, Err(TermsFault::Run(EngineFault::Replay(_))));
     prove!(!is_wrong);
@@ -114,7 +132,13 @@ pub fn appraisal_without_the_line_of_all<'x, T: Threads + Sync>(
         → StandsIn (whole_line (codes "total") None p.total) wrong.now → ⊥ }
 {
     let mut right = Vec::new(alloc);
-    let outcome = run_appraise(rt, alloc, task, files, &mut right);
+    let outcome = run_appraise(
+        &SeveralThreads::of(rt, task.threads),
+        alloc,
+        &task.settings,
+        files,
+        &mut right,
+    );
     if let Ok(()) = outcome {
         prove!(right.as_slice() != wrong);
     }
@@ -135,7 +159,14 @@ pub fn comparison_by_the_numbers_of_the_first<'x, T: Threads + Sync>(
 {
     let mut instruction = apt;
     let mut journals = [first, second];
-    let right = run_compare(rt, alloc, task, &mut instruction, &mut journals, out);
+    let right = run_compare(
+        &SeveralThreads::of(rt, task.threads),
+        alloc,
+        task,
+        &mut instruction,
+        &mut journals,
+        out,
+    );
     let is_refused = right.is_err();
     prove!(is_refused);
 }
@@ -155,7 +186,14 @@ pub fn comparison_of_too_many_postings<'x, T: Threads + Sync>(
 {
     let mut instruction = apt;
     let mut journals = [first, second];
-    let right = run_compare(rt, alloc, task, &mut instruction, &mut journals, out);
+    let right = run_compare(
+        &SeveralThreads::of(rt, task.threads),
+        alloc,
+        task,
+        &mut instruction,
+        &mut journals,
+        out,
+    );
     let is_refused = right.is_err();
     prove!(is_refused);
 }
@@ -172,7 +210,14 @@ pub fn comparison_written_before_the_fault<'x, T: Threads + Sync>(
     let mut instruction = apt;
     let mut journals = [first, second];
     let mut out = Vec::new(alloc);
-    let outcome = run_compare(rt, alloc, task, &mut instruction, &mut journals, &mut out);
+    let outcome = run_compare(
+        &SeveralThreads::of(rt, task.threads),
+        alloc,
+        task,
+        &mut instruction,
+        &mut journals,
+        &mut out,
+    );
     let is_wrong = !out.is_empty() && matches!(outcome, Err(EngineFault::ReplayOf { .. }));
     prove!(!is_wrong);
 }

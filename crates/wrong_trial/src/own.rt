@@ -35,7 +35,7 @@ pub fn own_with_another_period_refused(
     prove!(right.is_none());
 }
 
-/// The number of assortments is told where the module differs too.
+/// The number of assortments is reported, though the module differs too.
 pub fn own_number_told_before_the_module(instruction: &Instruction, own: &Instruction) {
     if own.module() != instruction.module() {
         let right = shape_fault(instruction, own);
@@ -47,7 +47,7 @@ pub fn own_number_told_before_the_module(instruction: &Instruction, own: &Instru
     }
 }
 
-/// The grades are told where the species differs too.
+/// The grades are reported, though the species differs too.
 pub fn own_grades_told_before_the_species(instruction: &Instruction, own: &Instruction) {
     let theirs = instruction.assortments()[0].species();
     let mine = own.assortments()[0].species();

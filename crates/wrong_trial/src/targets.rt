@@ -63,14 +63,14 @@ pub fn prices_taken_for_targets(alloc: Global) {
     }
 }
 
-/// A file with an item that has no head is told as one that doesn't fit.
+/// A file with an item that has no head is refused as one that doesn't fit.
 pub fn no_head_told_as_count(alloc: Global, instruction: &Instruction) {
     let right = targets_in(alloc, b"918 1 7~x~", instruction);
     let wrong = Err(TargetsFault::Count);
     prove!(right != wrong);
 }
 
-/// A word that is no number is told by its place from 0.
+/// The place of a word that is no number is counted from 0.
 pub fn word_counted_from_0(alloc: Global) {
     let right = all_numbers(alloc, b"918 1 7~918 1 8 x~");
     let wrong = Err(TargetsFault::Digits { list: 1, place: 1 });

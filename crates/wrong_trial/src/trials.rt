@@ -19,7 +19,7 @@ ghost use Rattle.wrong_trial.specs.Texts.{StandsIn, own_run};
 
 use buck_engine::{EngineFault, Nobody};
 use buck_terms::TermsFault;
-use buck_trial::{Opened, TrialTask, run_trial};
+use buck_trial::{Opened, TrialTask, run_trial_in_parts};
 use std::alloc::Global;
 use std::thread::Threads;
 
@@ -45,7 +45,7 @@ fn opened<'x>(
     })
 }
 
-/// The targets are told, though a stem file is refused.
+/// The targets are reported, though a stem file is refused.
 pub fn targets_told_before_a_stem_file<'x, T: Threads + Sync>(
     rt: &T,
     alloc: Global,
@@ -60,7 +60,7 @@ pub fn targets_told_before_a_stem_file<'x, T: Threads + Sync>(
     let Some(files) = opened(alloc, apt, stm, targets) else {
         return;
     };
-    let outcome = run_trial(rt, alloc, task, &Nobody, files, out);
+    let outcome = run_trial_in_parts(rt, alloc, task, &Nobody, files, out);
     if let Err(TermsFault::Targets(_why)) = outcome {
         let is_told = true;
         prove!(!is_told);
@@ -80,7 +80,7 @@ pub fn trial_of_no_stem_file<'x, T: Threads + Sync>(
         stms: Vec::new(alloc),
         targets: None,
     };
-    let outcome = run_trial(rt, alloc, task, &Nobody, files, out);
+    let outcome = run_trial_in_parts(rt, alloc, task, &Nobody, files, out);
     let is_refused = matches!(outcome, Err(TermsFault::Run(EngineFault::Seats)));
     prove!(is_refused);
 }
@@ -93,7 +93,7 @@ pub fn trial_written_before_the_targets_are_read<'x, T: Threads + Sync>(
     files: Opened<&'x [u8]>,
 ) {
     let mut out = Vec::new(alloc);
-    let outcome = run_trial(rt, alloc, task, &Nobody, files, &mut out);
+    let outcome = run_trial_in_parts(rt, alloc, task, &Nobody, files, &mut out);
     let is_wrong = !out.is_empty() && matches!(outcome, Err(TermsFault::Targets(_)));
     prove!(!is_wrong);
 }
@@ -117,7 +117,7 @@ pub fn trial_by_the_targets_of_the_instruction<'x, T: Threads + Sync>(
         return;
     };
     let mut right = Vec::new(alloc);
-    let outcome = run_trial(rt, alloc, task, &Nobody, files, &mut right);
+    let outcome = run_trial_in_parts(rt, alloc, task, &Nobody, files, &mut right);
     if let Ok(()) = outcome {
         prove!(right.as_slice() != wrong);
     }
@@ -142,7 +142,7 @@ pub fn trial_draws_of_other_orders<'x, T: Threads + Sync>(
         → StandsIn (spreads ++ codes "\n") wrong.now → ⊥ }
 {
     let mut right = Vec::new(alloc);
-    let outcome = run_trial(rt, alloc, task, &Nobody, files, &mut right);
+    let outcome = run_trial_in_parts(rt, alloc, task, &Nobody, files, &mut right);
     if let Ok(()) = outcome {
         prove!(right.as_slice() != wrong);
     }
@@ -166,7 +166,7 @@ pub fn trial_draws_that_go_on_from_line_to_line<'x, T: Threads + Sync>(
         → StandsIn (spreads ++ codes "\n") wrong.now → ⊥ }
 {
     let mut right = Vec::new(alloc);
-    let outcome = run_trial(rt, alloc, task, &Nobody, files, &mut right);
+    let outcome = run_trial_in_parts(rt, alloc, task, &Nobody, files, &mut right);
     if let Ok(()) = outcome {
         prove!(right.as_slice() != wrong);
     }

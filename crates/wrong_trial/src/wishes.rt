@@ -15,7 +15,7 @@ ghost use Rattle.wrong_trial.specs.Texts.{StandsIn};
 
 use buck_engine::{EngineFault, Nobody};
 use buck_terms::TermsFault;
-use buck_trial::{Opened, WishesTask, run_wishes};
+use buck_trial::{Opened, WishesTask, run_wishes_in_parts};
 use std::alloc::Global;
 use std::thread::Threads;
 
@@ -32,7 +32,7 @@ pub fn wishes_of_no_stem_file<'x, T: Threads + Sync>(
         stms: Vec::new(alloc),
         targets: None,
     };
-    let outcome = run_wishes(rt, alloc, task, &Nobody, files, out);
+    let outcome = run_wishes_in_parts(rt, alloc, task, &Nobody, files, out);
     let is_refused = matches!(outcome, Err(TermsFault::Run(EngineFault::Seats)));
     prove!(is_refused);
 }
@@ -45,7 +45,7 @@ pub fn wishes_written_before_the_targets_are_read<'x, T: Threads + Sync>(
     files: Opened<&'x [u8]>,
 ) {
     let mut out = Vec::new(alloc);
-    let outcome = run_wishes(rt, alloc, task, &Nobody, files, &mut out);
+    let outcome = run_wishes_in_parts(rt, alloc, task, &Nobody, files, &mut out);
     let is_wrong = !out.is_empty() && matches!(outcome, Err(TermsFault::Targets(_)));
     prove!(!is_wrong);
 }
@@ -75,7 +75,7 @@ pub fn wishes_leave_one_out<'x, T: Threads + Sync>(
         → StandsIn line wrong.now → ⊥ }
 {
     let mut right = Vec::new(alloc);
-    let outcome = run_wishes(rt, alloc, task, &Nobody, files, &mut right);
+    let outcome = run_wishes_in_parts(rt, alloc, task, &Nobody, files, &mut right);
     if let Ok(()) = outcome {
         prove!(right.as_slice() != wrong);
     }
@@ -97,7 +97,7 @@ pub fn wishes_without_the_runs_with_all<'x, T: Threads + Sync>(
         → StandsIn (whole_line (starts_of task.now.draws lists) whole.own) wrong.now → ⊥ }
 {
     let mut right = Vec::new(alloc);
-    let outcome = run_wishes(rt, alloc, task, &Nobody, files, &mut right);
+    let outcome = run_wishes_in_parts(rt, alloc, task, &Nobody, files, &mut right);
     if let Ok(()) = outcome {
         prove!(right.as_slice() != wrong);
     }

@@ -171,7 +171,7 @@ not_last i j js f two at alone figures is last =
     (subst (λ o. IsFirstGreatest (lengths_of (Cut a ∷ Cut b ∷ [])) o) is told.longest) in
     omega (arith, greatest.2 0 (omega arith), two.same)
 
--- where nothing was cut, steering cost nothing
+-- if nothing was cut, steering cost nothing
 no_cost : (i : InstructionParts) (d : DemandParts) (us : List Posting) → AreUnsteered i (Demand d ∷ []) us → (k : ℕ)
     → slice_index (costs_of i (Demand d ∷ []) us) k ≡ 0
 no_cost i d [] all k = refl
@@ -200,7 +200,7 @@ pub is_entry : (ps : List Posting) (d : DemandParts) (e f : EntryParts) → ps �
     → slice_get ps 1 ≡ Some (as_posting f) → f ≡ e
 is_entry ps d e f same there = ap (entry_in f) (sym there ∙ ap (λ qs. slice_get qs 1) same)
 
--- a cut that stands first is told
+-- a cut that stands first is returned
 pub told_there : (base : SheetParts) (j : JournalParts) (js : List JournalParts) (e : EntryParts) (o : Option Told)
     → js ≡ j ∷ [] → j.entries ≡ Cut e ∷ [] → IsToldAt base js (record { journal = 0; at = 0 }) o → is_some o ≡ true
 told_there base j js e None alone only is =

@@ -66,7 +66,7 @@ no_more_behind i (x ∷ y ∷ more) l m most first second same =
     subst (λ n. half_up (10 * gap_of m) n ≤ half_up (10 * gap_of l) l.targets) same
     (halves_rise (10 * gap_of m) (10 * gap_of l) l.targets l.some.0 (omega (arith, le)))
 
--- where as many logs were cut of each class as are wanted, no class lacks any
+-- if as many logs were cut of each class as are wanted, no class lacks any
 never_lacks : (i : InstructionParts) (targets without : List ℕ) (l : Lack) → IsLackOf i targets targets without l → ⊥
 never_lacks i targets without l is =
     let one : l.count ≡ l.target = is.count ∙ sym is.target in

@@ -36,7 +36,7 @@ pub fn degree_of_the_wrong_point(
     prove!(right != wrong);
 }
 
-/// The version before the last posting is told at a point.
+/// A point has the version before the last posting.
 pub fn version_before_the_point(
     alloc: Global,
     planner: &mut Planner,

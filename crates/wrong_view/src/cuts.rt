@@ -1,4 +1,4 @@
-//! Cuts told otherwise than they were.
+//! Cuts shown otherwise than they were.
 ghost use Rattle.std.specs.Prelude.{◌≡◌, [], ◌∷◌, length};
 ghost use Rattle.buck_figures.specs.Shown.{IsShown};
 ghost use Rattle.wrong_view.specs.Cuts.{AreOfTwoStems, IsAfterDemand, IsOffBase, IsOutvalued};
@@ -14,7 +14,7 @@ const FIRST: Place = Place { journal: 0, at: 0 };
 
 const SECOND: Place = Place { journal: 0, at: 1 };
 
-/// The cut after the one that is asked for is told.
+/// The cut after the one that is asked for is returned.
 pub fn cut_of_the_next_place(
     alloc: Global,
     figures: &Figures<'_>,
@@ -34,7 +34,7 @@ pub fn cut_of_the_next_place(
     prove!(right != wrong);
 }
 
-/// A demand is told as a cut.
+/// A demand is taken for a cut.
 pub fn demand_told_as_a_cut(
     alloc: Global,
     figures: &Figures<'_>,
@@ -54,7 +54,7 @@ pub fn demand_told_as_a_cut(
     prove!(right != wrong);
 }
 
-/// A cut isn't told.
+/// A cut is left out.
 #[tactic(auto, using(crate::proofs::Postings::told_there))]
 pub fn cut_not_told(
     alloc: Global,
@@ -75,7 +75,7 @@ pub fn cut_not_told(
     prove!(right != wrong);
 }
 
-/// A log of a cut isn't told.
+/// A log of a cut is left out.
 pub fn last_log_not_told(
     alloc: Global,
     figures: &Figures<'_>,
@@ -96,7 +96,7 @@ pub fn last_log_not_told(
     prove!(right != wrong);
 }
 
-/// The cut is told as the best one at base prices.
+/// The cut is given as the best one at base prices.
 pub fn best_is_the_cut(
     alloc: Global,
     figures: &Figures<'_>,
@@ -117,7 +117,7 @@ pub fn best_is_the_cut(
     prove!(right != wrong);
 }
 
-/// A log's base price is told as the price that was in force.
+/// A log's base price is given as the price that was in force.
 pub fn piece_at_its_base_price(
     alloc: Global,
     figures: &Figures<'_>,

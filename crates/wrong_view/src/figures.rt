@@ -30,14 +30,14 @@ const ONE: Sums = Sums {
     best: 90,
 };
 
-/// What steering cost is told by the prices then in force.
+/// The cost of steering is counted at the prices then in force.
 pub fn cost_by_the_prices_in_force() {
     let right = ONE.cost();
     let wrong = 20;
     prove!(right != wrong);
 }
 
-/// Trim is told as length left.
+/// Trim is counted as length left.
 pub fn trim_is_left() {
     let right = ONE.left();
     let wrong = 40;
@@ -196,7 +196,7 @@ pub fn first_cut_is_the_first_posting(
     prove!(right != wrong);
 }
 
-/// What all harvesters' postings come to is told of each.
+/// Each harvester is given the sums over all harvesters' postings.
 pub fn sums_of_all_for_each_harvester(
     alloc: Global,
     planner: &mut Planner,
@@ -218,7 +218,7 @@ pub fn sums_of_all_for_each_harvester(
     prove!(right != wrong);
 }
 
-/// The logs of all assortments are told of each.
+/// Each assortment is given the logs of all.
 pub fn logs_of_all_for_each_assortment(
     alloc: Global,
     planner: &mut Planner,
@@ -263,7 +263,7 @@ pub fn longest_is_the_last_of_equals(
     prove!(right != wrong);
 }
 
-/// A stem is told as the one where steering cost most, where it cost nothing.
+/// A stem is named as the one whose steering cost most, though steering cost nothing.
 pub fn dearest_where_steering_cost_nothing(
     alloc: Global,
     planner: &mut Planner,

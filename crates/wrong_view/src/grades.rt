@@ -30,7 +30,7 @@ pub fn grades_stay(alloc: Global, instruction: &Instruction)
     prove!(right != wrong);
 }
 
-/// What stems are worth without grades is told as what they are worth with them.
+/// The worth of stems without grades is given as their worth with them.
 pub fn worth_with_grades(
     alloc: Global,
     planner: &mut Planner,

@@ -55,7 +55,7 @@ pub fn least_first(alloc: Global, figures: &Figures<'_>) {
     prove!(right != wrong);
 }
 
-/// A class of which as many logs were cut as are wanted is told as one that lacks.
+/// A class of which as many logs were cut as are wanted is listed as lacking.
 pub fn enough_told_as_lacking(alloc: Global, figures: &Figures<'_>)
     requires { figures.now.counts.items ≡ figures.now.targets.value.items }
 {

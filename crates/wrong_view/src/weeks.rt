@@ -86,7 +86,7 @@ pub fn place_past_the_last_posting(figures: &Figures<'_>)
     prove!(right != wrong);
 }
 
-/// A cut of the second journal is told as the one that stands there in the first.
+/// A cut of the second journal is taken for the one at the same place in the first.
 pub fn cut_of_the_first_journal(alloc: Global, figures: &Figures<'_>, planner: &mut Planner)
     requires shown { IsShown figures.now planner.old }
     requires two { AreOfStemsEach figures.now.journals.now }

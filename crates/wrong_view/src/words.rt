@@ -1,4 +1,4 @@
-//! Numbers rounded or told wrongly.
+//! Numbers rounded or printed wrongly.
 use buck_words::{change_of, difference_of, half_up, letter, percent_at, permille, tens};
 
 /// A half is rounded down.
@@ -15,7 +15,7 @@ pub fn share_cut_off() {
     prove!(right != wrong);
 }
 
-/// Tens are rounded up where they are not a half.
+/// Tens are rounded up if they are not a half.
 pub fn tens_rounded_up() {
     let right = tens(14);
     let wrong = 2;
@@ -29,21 +29,21 @@ pub fn difference_without_its_sign() {
     prove!(right != wrong);
 }
 
-/// A price that fell is told as one that rose.
+/// A price that fell is shown as one that rose.
 pub fn fall_told_as_a_rise() {
     let right = change_of(300, 400).below;
     let wrong = false;
     prove!(right != wrong);
 }
 
-/// A change is told of the price in the place of its base.
+/// A change is counted in parts of the price now, not of its base.
 pub fn change_of_the_price_now() {
     let right = change_of(500, 400).size;
     let wrong = 200;
     prove!(right != wrong);
 }
 
-/// A change that prints 0 is told as a fall.
+/// A change that prints 0 is shown as a fall.
 pub fn no_change_told_as_a_fall() {
     let right = change_of(9999, 10000).below;
     let wrong = true;

@@ -7,7 +7,7 @@ use buck_value::Sheet;
 use std::alloc::Global;
 use std::sync::{Arc, Wait};
 
-/// One seat less than asked for, where all 64 are.
+/// One seat less than asked for, though all 64 are.
 pub fn open_a_seat_too_few<R: Wait>(
     rt: &R,
     alloc: Global,
@@ -22,7 +22,7 @@ pub fn open_a_seat_too_few<R: Wait>(
     Ok(opened)
 }
 
-/// The lesser of the front and the version is taken for seen, where the front was one version behind.
+/// The lesser of the front and the version is taken for seen, though the front was one version behind.
 pub fn raise_seen_not_taken_over(board: &Board, seat: &mut BoardSeat)
     requires { IsSeatOf board.now seat.old }
 {

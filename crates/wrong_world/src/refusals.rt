@@ -216,7 +216,7 @@ pub fn full_as_memory<F: Fn(&Standing) -> u64 + Drop>(
     prove!(right != wrong);
 }
 
-/// A locked cut is refused as full where one posting more fits.
+/// A locked cut is refused as full though one more posting fits.
 pub fn full_one_early<F: Fn(&Standing) -> u64 + Drop>(
     alloc: Global,
     world: &mut World<F>,

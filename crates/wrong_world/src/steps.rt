@@ -10,7 +10,7 @@ use buck_world::{Event, Stage, World};
 use std::alloc::Global;
 use std::sync::Arc;
 
-/// The plan is made under the sheet in force, where the harvester has seen another version.
+/// The plan is made under the sheet in force, though the harvester has seen another version.
 pub fn plan_under_version_in_force<F: Fn(&Standing) -> u64 + Drop>(
     alloc: Global,
     world: &mut World<F>,

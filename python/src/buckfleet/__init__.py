@@ -5,6 +5,7 @@
     rows = buckfleet.table("morning.apt", "morning.jrn", "logs")
     page = buckfleet.view("morning.apt", "morning.jrn")
     journal, report = buckfleet.in_turn("morning.apt", ["morning_1.stm", "morning_2.stm"], rule="linear")
+    rows = buckfleet.sweep("morning.apt", ["morning_1.stm", "morning_2.stm"], rules=buckfleet.RULES, periods=(1, 5))
 
     with buckfleet.Book("morning.apt", rule="linear") as book:
         stem = buckfleet.Stem(number=7, species=1, samples=diameters)
@@ -18,7 +19,25 @@ that the library's types can't hold, or a word that isn't one of those wanted, r
 of the library. The library is looked for at the first call: in $BUCKFLEET_LIBRARY, in the package, in the repository.
 """
 from ._book import Appraisal, Book, Cutting, Log, Standing, Stem
-from ._files import Cell, File, Table, Turns, buck, check, in_turn, report, table, table_text, view
+from ._files import (
+    Cell,
+    File,
+    Table,
+    Turns,
+    appraise,
+    buck,
+    check,
+    check_with,
+    compare,
+    in_turn,
+    report,
+    sweep,
+    table,
+    table_text,
+    tune,
+    view,
+    wishes,
+)
 from ._library import (
     CLOSED,
     FULL,
@@ -39,7 +58,8 @@ from ._library import (
 
 __all__ = [
     "Appraisal", "Book", "Cell", "Cutting", "File", "Log", "Refused", "Standing", "Stem", "Table", "Turns",
-    "buck", "check", "in_turn", "report", "table", "table_text", "view",
+    "appraise", "buck", "check", "check_with", "compare", "in_turn", "report", "sweep", "table", "table_text", "tune",
+    "view", "wishes",
     "CLOSED", "FULL", "MEMORY", "MISUSED", "OK", "READ", "REFUSED", "SEATS", "TOO_SMALL", "UNLAWFUL",
     "REASONS", "RULES", "TABLES", "VERSION",
 ]

@@ -13,7 +13,7 @@ from ctypes import POINTER, c_char_p, c_size_t, c_uint8, c_uint16, c_uint32, c_u
 from typing import Any
 
 # BUCKFLEET_VERSION of the header that this package was written for.
-VERSION = 7
+VERSION = 8
 
 # How a call ended. Those up to 5 are exit statuses of the program `buckfleet`.
 OK, REFUSED, SEATS, MEMORY, UNLAWFUL, READ, TOO_SMALL, CLOSED, MISUSED, FULL = range(10)
@@ -21,11 +21,15 @@ OK, REFUSED, SEATS, MEMORY, UNLAWFUL, READ, TOO_SMALL, CLOSED, MISUSED, FULL = r
 RULES = ("steady", "linear", "step", "root")
 TABLES = ("classes", "postings", "logs", "degrees", "assortments", "lacking")
 
-# Why a log can't be cut: of those that apply to it, the first is told. The library counts them from 1.
+# Why a log can't be cut: of those that apply to it, the first is reported. The library counts them from 1.
 REASONS = ("order", "assortment", "species", "start", "length", "end", "grade", "diameter", "price")
 
 MOST_LOGS = 80
 NO_DEGREE = 4294967295
+
+# In place of a number: the instruction's own. In place of a rule: prices need follow none.
+OWN = 4294967295
+ANY_RULE = 255
 
 HERE = os.path.dirname(os.path.abspath(__file__))
 NONE = "there is no libbuckfleet.so: scripts/c_library of the repository builds it, and BUCKFLEET_LIBRARY may name it"
@@ -33,7 +37,7 @@ NONE = "there is no libbuckfleet.so: scripts/c_library of the repository builds 
 
 class Refused(Exception):
     """A call that was refused. `status` is the library's status, as `UNLAWFUL`; `line` is the fault line that the
-    program prints, or of a call of a book, which has none, what was wrong."""
+    program prints, or what was wrong if there is none, as with `MISUSED` and of a call of a book."""
 
     def __init__(self, status: int, line: str):
         super().__init__(status, line)
@@ -46,6 +50,26 @@ class Refused(Exception):
 
 class Texts(ctypes.Structure):
     _fields_ = [("journal", c_size_t), ("report", c_size_t)]
+
+
+class Numbers(ctypes.Structure):
+    _fields_ = [("period", c_uint32), ("limit", c_uint32)]
+
+
+class Pair(ctypes.Structure):
+    _fields_ = [("first", Numbers), ("second", Numbers)]
+
+
+class Run(ctypes.Structure):
+    _fields_ = [("numbers", Numbers), ("rule", c_uint8)]
+
+
+class Draws(ctypes.Structure):
+    _fields_ = [("seed", c_uint64), ("number", c_uint16)]
+
+
+class DrawnRun(ctypes.Structure):
+    _fields_ = [("run", Run), ("draws", Draws)]
 
 
 class Block(ctypes.Structure):
@@ -99,6 +123,7 @@ class Standing(ctypes.Structure):
 
 
 _FILE = (c_char_p, c_size_t)
+_FILES = (*_FILE, POINTER(c_size_t), c_size_t)
 _TEXT = (POINTER(c_uint8), c_size_t, POINTER(c_size_t))
 _NUMBERS = (POINTER(c_uint32), c_size_t, POINTER(c_size_t))
 _BOOK = (POINTER(Block),)
@@ -111,7 +136,13 @@ CALLS: dict[str, tuple[Any, ...]] = {
     "report": (*_FILE, *_FILE, *_TEXT),
     "view": (*_FILE, *_FILE, *_FILE, *_TEXT),
     "table": (*_FILE, *_FILE, c_uint8, *_TEXT),
-    "in_turn": (*_FILE, POINTER(c_size_t), c_size_t, c_uint8, POINTER(c_uint8), c_size_t, POINTER(Texts)),
+    "in_turn": (*_FILES, c_uint8, POINTER(c_uint8), c_size_t, POINTER(Texts)),
+    "check_with": (*_FILES, POINTER(Run), *_TEXT),
+    "appraise": (*_FILES, POINTER(Numbers), *_TEXT),
+    "compare": (*_FILES, POINTER(Pair), *_TEXT),
+    "sweep": (*_FILES, POINTER(Run), c_size_t, POINTER(Draws), *_TEXT),
+    "wishes": (*_FILES, POINTER(DrawnRun), *_TEXT),
+    "tune": (*_FILES, POINTER(Run), *_TEXT),
     "open": (*_BOOK, *_FILE, POINTER(Terms)),
     "close": _BOOK,
     "cut": (*_STEM, POINTER(Cutting)),

@@ -2,10 +2,8 @@
 use Rattle.std.specs.Prelude.{◌≡◌, ℕ, ◌+◌, ◌*◌, ◌<◌, ◌≤◌, ◌==◌, List, [], ◌∷◌, ◌++◌, length, count_by, slice_index, unwrap_or}
 use Rattle.std.specs.Ordering.{nat_cmp}
 use Rattle.std.specs.BTreeMap.{get, BTreeMap}
-use Rattle.buck_apt.specs.Instruction.{InstructionParts, IsInstruction, index_of}
-use Rattle.buck_stem.specs.Stem.{StemParts}
+use Rattle.buck_apt.specs.Instruction.{InstructionParts, IsInstruction}
 use Rattle.buck_value.specs.declared.log.Log.{Log}
-use Rattle.buck_value.specs.Allowed.{class_of}
 use Rattle.buck_value.specs.Sheet.{SheetParts}
 use Rattle.buck_book.specs.declared.posting.Posting.{Posting}
 use Rattle.buck_book.specs.declared.running.Running.{Running}
@@ -29,10 +27,6 @@ pub record AreCounts (i : InstructionParts) (ps : List Posting) (by_class by_ass
 pub record AreAtMost (most : ℕ) (by_class by_assortment : List ℕ) : Type 0 where
   pub class_counts : (k : ℕ) → slice_index by_class k ≤ most
   pub assortment_counts : (a : ℕ) → slice_index by_assortment a ≤ most
-
--- the place of a log's class
-abbrev pub class_place : InstructionParts → StemParts → Log → ℕ
-class_place i stem g = index_of i (class_of i stem g)
 
 -- each count grew by how many things of a list are at its place
 pub record AreGrownAt {X : Type 0} (place : X → ℕ) (before : List ℕ) (xs : List X) (after : List ℕ) : Type 0 where

@@ -2,7 +2,7 @@
 use Rattle.std.specs.Prelude.{◌+◌, nat_lt, cond, Option, Some, None}
 use Rattle.buck_cells.specs.declared.change.Change.{Change}
 
--- the lesser of two changes, where there are both, and the greater; of equals the first
+-- the lesser of two changes, or the only one, and the greater; of equals the first
 abbrev pub lesser : Option Change → Option Change → Option Change
 lesser None other = other
 lesser (Some one) None = Some one

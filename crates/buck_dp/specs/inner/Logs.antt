@@ -10,7 +10,7 @@ use Rattle.buck_dp.specs.declared.takers.Takers.{Takers}
 use Rattle.buck_value.specs.Sheet.{SheetParts}
 use Rattle.buck_dp.specs.declared.offers.Menu.{Menu}
 use Rattle.std.specs.Int.{bit_at}
-use Rattle.buck_value.specs.Wood.{AllIn}
+use Rattle.buck_value.specs.Wood.{TakesWood}
 use Rattle.buck_dp.specs.declared.takers.Known.{Known}
 
 -- the assortment at a place is among them
@@ -20,7 +20,7 @@ IsTaker takers a = bit_at takers.marks a ≡ 1
 -- those that take wood of a species and of the grades of a mask
 abbrev pub AreTakersOf : InstructionParts → ℕ → ℕ → Takers → Type 0
 AreTakersOf i species grades takers = (a : ℕ) (x : AssortmentParts) → slice_get i.assortments a ≡ Some x
-    → IsTaker takers a ↔ ((x.species ≡ species) × AllIn grades x.grades)
+    → IsTaker takers a ↔ TakesWood x species grades
 
 -- the kinds of wood that were met have their takers
 abbrev pub AreKnown : InstructionParts → List Known → Type 0
@@ -40,7 +40,7 @@ ground_with sheet stem menu = record { sheet = sheet; stem = stem; menu = menu }
 abbrev pub points_of : GroundParts → ℕ
 points_of p = stem_length p.stem.samples / p.sheet.instruction.«module» + 1
 
--- how many places there are from which a cutting goes on: the points, and one past the last, since a trim may end
+-- how many places there are from which a cutting goes on: the points, and one past the last, because a trim may end
 -- between
 abbrev pub ends_of : GroundParts → ℕ
 ends_of p = points_of p + 1

@@ -39,11 +39,11 @@ IsRowOf x takers d h = (h.takers ≡ takers) × (h.diameter ≡ d) × IsAt x.she
 -- the price list of some takers for a diameter stands at a place
 abbrev pub IsListAt : {X : Type 0} → List (PriceList X) → Takers → ℕ → ℕ → Type 0
 IsListAt {X} lists takers d n = (n < length lists)
-    × ((l : PriceList X) → slice_get lists n ≡ Some l → (l.ask.takers ≡ takers) × IsAsked l.ask d)
+    × ((l : PriceList X) → slice_get lists n ≡ Some l → (l.ask.takers ≡ takers) × IsAsked l.ask.band d)
 
 -- a price list has the terms of an instruction for what a menu offers
 abbrev pub HasTerms : SheetParts → Menu → PriceList Term → Type 0
-HasTerms s m l = AreTerms s.instruction m.offers.items l.ask (length m.offers.items) l.list.items
+HasTerms s m l = AreTerms s.instruction m.offers.items l.ask.band (length m.offers.items) l.list.items
 
 -- or the quotes of a sheet for that
 abbrev pub HasQuotes : SheetParts → Menu → PriceList Quote → Type 0

@@ -8,6 +8,7 @@ use Rattle.buck_dp.specs.inner.Logs.{point_after, IsTaker}
 use Rattle.buck_dp.specs.declared.pricing.Term.{Term}
 use Rattle.buck_dp.specs.declared.pricing.Quote.{Quote}
 use Rattle.buck_dp.specs.declared.pricing.Ask.{Ask}
+use Rattle.buck_dp.specs.declared.pricing.Band.{Band}
 use Rattle.buck_dp.specs.inner.Bid.{BidParts, bid_of}
 use Rattle.buck_dp.specs.declared.bid.TheConstants.{HIGHEST_RANK}
 use Rattle.buck_value.specs.declared.sheet.TheConstants.{HIGHEST_PRICE}
@@ -31,19 +32,18 @@ abbrev pub IsPriced : AssortmentParts → Offer → ℕ → Type 0
 IsPriced x o d = Contains x.lengths o.length × IsBought x (column_of x o.length) d
 
 -- the diameters of a band
-abbrev pub IsAsked : Ask → ℕ → Type 0
-IsAsked ask d = (ask.band.thinnest ≤ d) × (d < ask.band.past)
+abbrev pub IsAsked : Band → ℕ → Type 0
+IsAsked band d = (band.thinnest ≤ d) × (d < band.past)
 
--- a taker has a price for them at each diameter that is asked for, that of one class
-pub record IsClassAt (i : InstructionParts) (x : AssortmentParts) (o : Offer) (ask : Ask) (class : ℕ) : Type 0 where
-  pub taker : IsTaker ask.takers o.assortment
+-- the assortment has a price for them at each diameter of a band, that of one class
+pub record IsClassAt (i : InstructionParts) (x : AssortmentParts) (o : Offer) (band : Band) (class : ℕ) : Type 0 where
   pub within : class < classes i
-  pub index : (d : ℕ) → IsAsked ask d → index_of i (class_for x o d) ≡ class
-  pub priced : (d : ℕ) → IsAsked ask d → IsPriced x o d
+  pub index : (d : ℕ) → IsAsked band d → index_of i (class_for x o d) ≡ class
+  pub priced : (d : ℕ) → IsAsked band d → IsPriced x o d
 
--- no taker has a price for them there
-abbrev pub HasNoPrice : AssortmentParts → Offer → Ask → Type 0
-HasNoPrice x o ask = (d : ℕ) → IsAsked ask d → IsTaker ask.takers o.assortment → IsPriced x o d → ⊥
+-- it has no price for them there
+abbrev pub HasNoPrice : AssortmentParts → Offer → Band → Type 0
+HasNoPrice x o band = (d : ℕ) → IsAsked band d → IsPriced x o d → ⊥
 
 -- a taker bids so much for logs of so many steps and a top diameter, with its trim, by the offer of the bid's rank
 pub record IsTakersBid (s : SheetParts) (offers : List Offer) (takers : Takers) (d steps trim : ℕ)
@@ -69,16 +69,16 @@ pub record IsSmall (q : Quote) : Type 0 where
   pub rank : q.term.rank ≤ HIGHEST_RANK
 
 -- a quote is a taker's bid at each diameter of a band
-pub record IsQuote (s : SheetParts) (offers : List Offer) (ask : Ask) (q : Quote) : Type 0 where
+pub record IsQuote (s : SheetParts) (offers : List Offer) (takers : Takers) (band : Band) (q : Quote) : Type 0 where
   pub small : IsSmall q
   pub rise : q.term.rise ≡ point_after s.instruction.«module» q.term.trim
-  pub bids : (d : ℕ) → IsAsked ask d → IsTakersBid s offers ask.takers d q.term.steps q.term.trim (quote_bid q d)
+  pub bids : (d : ℕ) → IsAsked band d → IsTakersBid s offers takers d q.term.steps q.term.trim (quote_bid q d)
 
 -- a term at the price of its class
 abbrev pub quote_at : List ℕ → Term → Quote
 quote_at prices t = record { term = t; price = slice_index prices t.class }
 
--- the first bids more than the second by its price, of the same kind, and by length where that is per cubic metre, for
+-- the first bids more than the second by its price, of the same kind, and by length if that is per cubic metre, for
 -- logs that are no longer and with no more trim
 pub record IsLed (p q : Quote) : Type 0 where
   pub trim : p.term.trim ≤ q.term.trim
@@ -86,17 +86,27 @@ pub record IsLed (p q : Quote) : Type 0 where
   pub less : ((p.term.kind ≡ 1) × (q.term.kind ≡ 1) × (q.price * q.term.length + p.price < p.price * p.term.length))
       ⊎ ((p.term.kind ≢ 1) × (q.term.kind ≢ 1) × (q.price < p.price))
 
+-- the first comes before the second in the tie order and bids no less, for logs that are as long and with no more trim
+pub record IsTied (p q : Quote) : Type 0 where
+  pub length : p.term.length ≡ q.term.length
+  pub steps : p.term.steps ≡ q.term.steps
+  pub kind : p.term.kind ≡ q.term.kind
+  pub price : q.price ≤ p.price
+  pub rank : q.term.rank < p.term.rank
+  pub trim : p.term.trim ≤ q.term.trim
+
 -- what can lead a list: it outbids what it leads
 abbrev pub IsLeading : Ask → Quote → Type 0
 IsLeading ask p = (p.term.kind ≢ 1) ⊎ (36 ≤ ask.band.thinnest)
 
--- one of a list bids what a quote does: it is that, or outbids it
+-- one of a list bids what a quote does: it is that, outbids it, or ties with it
 abbrev pub IsCovered : Ask → List Quote → Quote → Type 0
-IsCovered ask list x = (p : Quote) × Contains list p × ((p ≡ x) ⊎ (IsLeading ask p × IsLed p x))
+IsCovered ask list x =
+    (p : Quote) × Contains list p × ((p ≡ x) ⊎ (IsLeading ask p × IsLed p x) ⊎ IsTied p x)
 
--- who leads a list: what it outbids is covered
+-- who leads a list: what it outbids or ties with is covered
 abbrev pub IsLeader : Ask → List Quote → Quote → Type 0
-IsLeader ask list p = (x : Quote) → IsLed p x → IsCovered ask list x
+IsLeader ask list p = (x : Quote) → IsLed p x ⊎ IsTied p x → IsCovered ask list x
 
 -- a quote comes to a list: the new one has what the list has, or that, and covers both
 pub record IsNext (ask : Ask) (q : Quote) (list new : List Quote) : Type 0 where
@@ -104,10 +114,12 @@ pub record IsNext (ask : Ask) (q : Quote) (list new : List Quote) : Type 0 where
   pub met : (x : Quote) → IsCovered ask list x → IsCovered ask new x
   pub own : IsCovered ask new q
 
--- a list has quotes of terms at their prices, and covers those of the first n
+-- a list has quotes of takers' terms at their prices, and covers those of the first n terms
 pub record IsPruned (ask : Ask) (prices : List ℕ) (terms : List Term) (n : ℕ) (list : List Quote) : Type 0 where
-  pub real : (q : Quote) → Contains list q → (t : Term) × Contains terms t × (quote_at prices t ≡ q)
-  pub met : (k : ℕ) (t : Term) → k < n → slice_get terms k ≡ Some t → IsCovered ask list (quote_at prices t)
+  pub real : (q : Quote) → Contains list q
+      → (t : Term) × Contains terms t × IsTaker ask.takers t.assortment × (quote_at prices t ≡ q)
+  pub met : (k : ℕ) (t : Term) → k < n → slice_get terms k ≡ Some t → IsTaker ask.takers t.assortment
+      → IsCovered ask list (quote_at prices t)
 
 -- the cell of a quote at a diameter, in a row that reaches so far back
 abbrev pub cell_of : ℕ → ℕ → Quote → Cell
@@ -126,23 +138,26 @@ row_of far d quotes = map (cell_of far d) quotes
 
 -- the quotes of an ask: each is a taker's bid, and each bid of a taker is met, with no more trim
 pub record AreQuotes (s : SheetParts) (offers : List Offer) (ask : Ask) (quotes : List Quote) : Type 0 where
-  pub real : All (λ q. IsQuote s offers ask q) quotes
-  pub met : (steps trim d : ℕ) (bid : BidParts) → IsAsked ask d → IsTakersBid s offers ask.takers d steps trim bid
+  pub real : All (λ q. IsQuote s offers ask.takers ask.band q) quotes
+  pub met : (steps trim d : ℕ) (bid : BidParts) → IsAsked ask.band d → IsTakersBid s offers ask.takers d steps trim bid
       → (q : Quote) × Contains quotes q × Meets (cell_of 0 d q) steps bid × (q.term.trim ≤ trim)
 
--- a term has a class, and is a quote at each price of that
-pub record IsTerm (i : InstructionParts) (offers : List Offer) (ask : Ask) (t : Term) : Type 0 where
+-- a term has a class, and is a quote at each price of that wherever its assortment is a taker
+pub record IsTerm (i : InstructionParts) (offers : List Offer) (band : Band) (t : Term) : Type 0 where
   pub class : t.class < classes i
-  pub quote : (version : ℕ) (prices : List ℕ) → IsSheet (sheet_of version i prices)
-      → IsQuote (sheet_of version i prices) offers ask (quote_at prices t)
+  pub few : t.assortment < 16
+  pub quote : (version : ℕ) (prices : List ℕ) → IsSheet (sheet_of version i prices) → (takers : Takers)
+      → IsTaker takers t.assortment → IsQuote (sheet_of version i prices) offers takers band (quote_at prices t)
 
--- the terms of the first n offers: each bid of a taker is that of one at its price
-pub record AreTerms (i : InstructionParts) (offers : List Offer) (ask : Ask) (n : ℕ) (terms : List Term) : Type 0 where
-  pub real : All (λ t. IsTerm i offers ask t) terms
-  pub met : (version : ℕ) (prices : List ℕ) → IsSheet (sheet_of version i prices) → (steps trim d : ℕ) (bid : BidParts)
-      → IsAsked ask d → HIGHEST_RANK < bid.rank + n
-      → IsTakersBid (sheet_of version i prices) offers ask.takers d steps trim bid
-      → (t : Term) × Contains terms t × (t.steps ≡ steps) × (t.trim ≡ trim) × (quote_bid (quote_at prices t) d ≡ bid)
+-- the terms of the first n offers: each bid of whatever taker is that of one of its terms at the price
+pub record AreTerms (i : InstructionParts) (offers : List Offer) (band : Band) (n : ℕ)
+    (terms : List Term) : Type 0 where
+  pub real : All (λ t. IsTerm i offers band t) terms
+  pub met : (version : ℕ) (prices : List ℕ) → IsSheet (sheet_of version i prices)
+      → (takers : Takers) (steps trim d : ℕ) (bid : BidParts) → IsAsked band d → HIGHEST_RANK < bid.rank + n
+      → IsTakersBid (sheet_of version i prices) offers takers d steps trim bid
+      → (t : Term) × Contains terms t × IsTaker takers t.assortment × (t.steps ≡ steps) × (t.trim ≡ trim)
+      × (quote_bid (quote_at prices t) d ≡ bid)
 
 -- a cell is a taker's bid
 pub record IsCell (s : SheetParts) (offers : List Offer) (takers : Takers) (d far : ℕ) (c : Cell) : Type 0 where

@@ -49,7 +49,7 @@ pub record IsPart (p : GroundParts) (top first stop : ℕ) (cells : List Cell) :
   pub served : (i e : ℕ) (bid : BidParts) → first ≤ i → i < stop → IsLogAt p i top e bid → IsServed p cells top i e bid
 
 -- a settled point: its value has the worth of the best from there on, and its choice is the rank of the first log of
--- that, or 0 where none starts there
+-- that, or 0 if none starts there
 pub record IsSettled (p : GroundParts) (values : List BidParts) (choices : List ℕ) (k : ℕ) : Type 0 where
   pub even : (bid_at values k).rank ≡ 0
   pub falls : (j : ℕ) → k ≤ j → (bid_at values j).worth ≤ (bid_at values k).worth

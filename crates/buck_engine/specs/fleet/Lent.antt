@@ -7,7 +7,7 @@ use denote.Ref.{MutBor}
 abbrev pub LeftBehind : Type 0 → Type 0
 LeftBehind T = Unit {0} ⊎ ((MutBor T × Unit {0}) ⊎ ⊥)
 
--- what holds of the contents of a writer before and after a call, where there is one
+-- what holds of the contents of a writer before and after a call, if there is one
 abbrev pub OfWriter : Type 1
 OfWriter = (Option (List ℕ) → Option (List ℕ) → Type 0) → Type 0
 

@@ -51,7 +51,7 @@ pub record IsHarvest (reads : ReadsApt) (apt : Option (List ℕ)) (stms : List (
   pub stems : (k : ℕ) → k < length stms → CutsFile (k + 1) h (slice_index_or stms k None)
   pub nobody_else : All (λ x. (0 < harvester_of x) × (harvester_of x ≤ length stms)) h.postings
 
--- what else holds of the history: nothing where all harvesters work at once; where they take turns, the postings stand
+-- what else holds of the history: nothing if all harvesters work at once; if they take turns, the postings stand
 -- in the order of these, and the prices are what the rule gives
 abbrev pub IsInOrder : Order → (HistoryParts → Type 0) → HistoryParts → Type 0
 IsInOrder AtOnce ByRule h = Unit {0}
@@ -77,7 +77,7 @@ pub record IsListFault (stms : List (Option (List ℕ))) (fault : EngineFault) :
 abbrev pub IsCuttingFault : EngineFault → Type 0
 IsCuttingFault fault = (fault ≡ Full) ⊎ ((fault ≡ Memory) ⊎ ((why : _) × (fault ≡ Close why)))
 
--- the first file that has a fault, or, where all are accepted, what went wrong in the fleet
+-- the first file that has a fault, or, if all are accepted, what went wrong in the fleet
 abbrev pub IsHarvestFault : Option (List ℕ) → List (Option (List ℕ)) → EngineFault → Type 0
 IsHarvestFault apt stms fault =
     IsAptFault apt fault
@@ -98,7 +98,7 @@ pub record HaveTooMany (stms : List (Option (List ℕ))) : Type 0 where
   pub stms_say : (k : ℕ) → k < length stms → Says stm_of (slice_index_or stms k None) (Ok (slice_index_or stems k []))
   pub many : MOST_POSTINGS < sum_by (λ list. length list) stems
 
--- where harvesters take turns, a history is full only where there are too many stems
+-- if harvesters take turns, a history is full only if there are too many stems
 abbrev pub IsFullInOrder : Order → List (Option (List ℕ)) → EngineFault → Type 0
 IsFullInOrder AtOnce stms fault = Unit {0}
 IsFullInOrder InTurn stms fault = fault ≡ Full → HaveTooMany stms
@@ -109,7 +109,7 @@ abbrev pub AnswersFleet : ReadsApt → Order → (HistoryParts → Type 0) → O
 AnswersFleet reads order ByRule apt stms (Ok h) = IsHarvest reads apt stms h × IsInOrder order ByRule h
 AnswersFleet reads order ByRule apt stms (Err fault) = IsFleetFault apt stms fault × IsFullInOrder order stms fault
 
--- the texts of a history were written: the journal, where one is asked for, and the report
+-- the texts of a history were written: the journal, if one is asked for, and the report
 pub record WroteAll (h : HistoryParts) (OfJournal : OfWriter) (old new : Option (List ℕ)) : Type 0 where
   pub report : List ℕ
   pub is_report : IsReport h report

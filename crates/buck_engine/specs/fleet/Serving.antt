@@ -13,7 +13,7 @@ use Rattle.buck_engine.specs.run.Opening.{AnswersInputs}
 use Rattle.buck_engine.specs.run.Reading.{ReadsApt, apt_with}
 use Rattle.buck_engine.specs.tie.Ties.{FollowsRule}
 
--- a run over files that are open, whose journal goes into a file that was made; where that can't be, nothing is written
+-- a run over files that are open, whose journal goes into a file that was made; if that can't be, nothing is written
 abbrev pub RunsMade : {F M : Type 0} → (F → Option (List ℕ)) → (M → Option (List ℕ)) → ReadsApt → Order
     → (HistoryParts → Type 0) → F × List F → Option M → Option (List ℕ) → Option (List ℕ)
     → Result (Unit {0}) EngineFault → Type 0
@@ -23,7 +23,7 @@ RunsMade held contents reads order ByRule files (Some made) old new outcome =
     × IsFleetRun reads order ByRule (held files.0) (map held files.1) (of_writer (contents made) (contents left))
     old new outcome
 
--- a run over the files that were opened: the file of the journal is made first, where one is wanted
+-- a run over the files that were opened: the file of the journal is made first, if one is wanted
 abbrev pub RunsInputs : {O F M : Type 0} → (O → List ℕ → Option M → O → Type 0) → (F → Option (List ℕ))
     → (M → Option (List ℕ)) → O → O → ReadsApt → Order → (HistoryParts → Type 0) → Option (List ℕ)
     → Result (F × List F) EngineFault → Option (List ℕ) → Option (List ℕ) → Result (Unit {0}) EngineFault → Type 0

@@ -17,7 +17,7 @@ AreEachFew js = All (λ j. length j.entries ≤ MOST_POSTINGS) js
 abbrev pub ShowsUnlawful : Type 0 → EngineFault → Option (List ℕ) → Option (List ℕ) → EngineFault → Type 0
 ShowsUnlawful Left named old new fault = ((fault ≡ named) × Left) ⊎ Fails old new fault
 
--- lawful journals are shown, and of others what is left of the first that isn't; it fails to be written only where
+-- lawful journals are shown, and of others what is left of the first that isn't; it fails to be written only if
 -- there is something to write
 abbrev pub ShowsAll : (InstructionParts → List JournalParts → Type 0) → Type 0 → Type 0 → InstructionParts
     → List JournalParts → Option (List ℕ) → Option (List ℕ) → Result (Unit {0}) EngineFault → Type 0

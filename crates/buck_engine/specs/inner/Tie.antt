@@ -25,7 +25,7 @@ stems_in_lists = map (λ (v : Vec Stem Global). v.items)
 abbrev pub AreStemsOf : ℕ → List (Option (List ℕ)) → List (List StemParts) → Type 0
 AreStemsOf n stms files = (k : ℕ) → k < n → Says stm_of (slice_index_or stms k None) (Ok (slice_index_or files k []))
 
--- the stem that a posting cut, where it is a harvester's
+-- the stem that a posting cut, if it is a harvester's
 abbrev pub stem_of_own : ℕ → Posting → Option StemParts
 stem_of_own harvester (Cut e) = cond (e.harvester == harvester) (Some e.stem) None
 stem_of_own harvester (Demand d) = None

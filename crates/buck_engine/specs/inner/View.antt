@@ -22,7 +22,7 @@ WritesAs Shown old new (Err fault) = Fails old new fault
 abbrev pub ShowsFault : Type 0 → ReplayFault → Option (List ℕ) → Option (List ℕ) → EngineFault → Type 0
 ShowsFault Left why old new fault = ((fault ≡ Replay why) × Left) ⊎ Fails old new fault
 
--- a lawful history is shown, and of another what is left of its first fault; it fails to be written only where there is
+-- a lawful history is shown, and of another what is left of its first fault; it fails to be written only if there is
 -- something to write
 abbrev pub ShowsHistory : (HistoryParts → Type 0) → Type 0 → Type 0 → HistoryParts → Option (List ℕ) → Option (List ℕ)
     → Result (Unit {0}) EngineFault → Type 0

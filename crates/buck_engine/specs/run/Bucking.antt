@@ -24,7 +24,7 @@ abbrev pub AnswersBuck : Option (List ℕ) → Option (List ℕ) → Result (Lis
 AnswersBuck apt stm (Ok text) = IsAnswerTo apt stm text
 AnswersBuck apt stm (Err fault) = IsAptFault apt fault ⊎ (IsAccepted apt_of apt × IsStmFault 1 stm fault)
 
--- the byte that ends the instruction where both files stand in one input
+-- the byte that ends the instruction if both files stand in one input
 abbrev pub is_bar : ℕ → Bool
 is_bar b = b == 124
 

@@ -72,7 +72,7 @@ abbrev pub both_listed : {X Y A E : Type 0} → Result (X × Vec Y A) E → Resu
 both_listed (Ok both) = Ok (both.0, both.1.items)
 both_listed (Err e) = Err e
 
--- where a journal is wanted, its file is made by its name; where that can't be, it is a write fault
+-- if a journal is wanted, its file is made by its name; if that can't be, it is a write fault
 abbrev pub MakesJournal : {O M : Type 0} → (O → List ℕ → Option M → O → Type 0) → O → O → Option (List ℕ)
     → Result (Option M) EngineFault → Type 0
 MakesJournal makes old new None (Ok None) = new ≡ old

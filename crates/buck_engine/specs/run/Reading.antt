@@ -44,7 +44,7 @@ IsAptFault apt fault = IsFileFault 0 Apt apt_of apt fault
 abbrev pub IsStmFault : ℕ → Option (List ℕ) → EngineFault → Type 0
 IsStmFault number stm fault = IsFileFault number (Stm number) stm_of stm fault
 
--- where a fault is one of a file, or comes before any is read, what holds of the number of the last that was read
+-- if a fault is one of a file, or comes before any is read, what holds of the number of the last that was read
 abbrev pub IfStopped : (ℕ → Type 0) → EngineFault → Type 0
 IfStopped Last (Read file) = Last file
 IfStopped Last (Apt fault) = Last 0

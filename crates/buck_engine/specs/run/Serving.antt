@@ -1,4 +1,4 @@
--- How a whole run ends: what is opened, what is written, and what is told of it.
+-- How a whole run ends: what is opened, what is written, and what is reported of it.
 use Rattle.std.specs.Prelude.{◌≡◌, ◌≤◌, ℕ, List, length, take, Option, Result, Ok, Err}
 use Rattle.std.specs.Io.KnownBytes.{Appends, Keeps}
 use Rattle.buck_engine.specs.declared.fault.EngineFault.{EngineFault}
@@ -15,7 +15,7 @@ use Rattle.buck_engine.specs.text.Written.{WritesText}
 abbrev pub AnswersTwo : Type 1
 AnswersTwo = Option (List ℕ) → Option (List ℕ) → Result (List ℕ) EngineFault → Type 0
 
--- a run over the files that were opened; where one can't be, nothing is written
+-- a run over the files that were opened; if one can't be, nothing is written
 abbrev pub RunsOpened : {F : Type 0} → AnswersTwo → (F → Option (List ℕ)) → Result (F × F) EngineFault
     → Option (List ℕ) → Option (List ℕ) → Result (Unit {0}) EngineFault → Type 0
 RunsOpened Answers held (Ok files) old new outcome = WritesText (Answers (held files.0) (held files.1)) old new outcome
@@ -46,7 +46,7 @@ abbrev pub status_after : Result (Unit {0}) EngineFault → ℕ
 status_after (Ok _) = 0
 status_after (Err fault) = status_of fault
 
--- first bytes of a text were written: all of it, where the writer took them
+-- first bytes of a text were written: all of it, if the writer took them
 abbrev pub AppendsFirst : Option (List ℕ) → Option (List ℕ) → List ℕ → Type 0
 AppendsFirst old new text = (k : ℕ) × (k ≤ length text) × Appends old new (take k text)
 

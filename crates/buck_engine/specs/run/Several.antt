@@ -16,7 +16,7 @@ use Rattle.buck_engine.specs.run.Reading.{IsAccepted, IsAptFault, IsFileFault, R
 use Rattle.buck_engine.specs.run.Viewing.{AppendsPage, AppendsTable}
 use Rattle.buck_engine.specs.text.Written.{AppendsSome}
 
--- the fault of the journal at a place of so many: where there are several it has its number, from 1
+-- the fault of the journal at a place of so many: if there are several it has its number, from 1
 abbrev pub journal_fault : ℕ → ℕ → JournalFault → EngineFault
 journal_fault number place fault = cond (number == 1) (Journal fault) (JournalOf (place + 1) fault)
 
@@ -80,8 +80,8 @@ pub record IsFirstUnlawful (i : InstructionParts) (js : List JournalParts) (plac
 abbrev pub HavePage : InstructionParts → List JournalParts → Type 0
 HavePage i js = AreLawful i js ⊎ ((place : ℕ) × (why : ReplayFault) × IsFirstUnlawful i js place why)
 
--- what is there of the output after a run that shows journals: what was written of lawful ones, what is left where one
--- isn't lawful, and else nothing more than before; or, where the output can't be written, some first bytes of what
+-- what is there of the output after a run that shows journals: what was written of lawful ones, what is left if one
+-- isn't lawful, and else nothing more than before; or, if the output can't be written, some first bytes of what
 -- there is to write
 abbrev pub ShowsSeveral : ReadsApt → (InstructionParts → List JournalParts → Type 0) → Type 0 → Type 0
     → Option (List ℕ) → List (Option (List ℕ)) → Option (List ℕ) → Option (List ℕ)

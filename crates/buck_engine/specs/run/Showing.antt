@@ -15,7 +15,7 @@ abbrev pub Shows : ReadsApt → Shown → Option (List ℕ) → List (Option (Li
 Shows reads Page apt files old new outcome = ShowsPages reads apt files old new outcome
 Shows reads (Table table) apt files old new outcome = ShowsTables reads apt files old new outcome
 
--- over the files that were opened; where one can't be, nothing is written
+-- over the files that were opened; if one can't be, nothing is written
 abbrev pub ShowsOpened : {F : Type 0} → ReadsApt → Shown → (F → Option (List ℕ)) → Result (F × List F) EngineFault
     → Option (List ℕ) → Option (List ℕ) → Result (Unit {0}) EngineFault → Type 0
 ShowsOpened reads shown held (Ok files) old new outcome =

@@ -27,7 +27,7 @@ abbrev pub IsReadFault : Option (List ℕ) → Option (List ℕ) → EngineFault
 IsReadFault apt journal fault = IsAptFault apt fault ⊎ (IsAccepted apt_of apt × IsJournalFault journal fault)
 
 -- what is there of the output after a run that shows a journal: what was written of a lawful one, what is left of one
--- that isn't lawful, and else nothing more than before; or, where the output can't be written, some first bytes of what
+-- that isn't lawful, and else nothing more than before; or, if the output can't be written, some first bytes of what
 -- the history shows, of which there is something to write
 abbrev pub ShowsAs : ReadsApt → (HistoryParts → Type 0) → Type 0 → Type 0 → Option (List ℕ) → Option (List ℕ)
     → Option (List ℕ) → Option (List ℕ) → Result (Unit {0}) EngineFault → Type 0
@@ -38,7 +38,7 @@ ShowsAs reads HasText Shown Left apt journal old new (Err (Replay why)) =
     HaveHistory reads (λ h. IsFirstFault h why) apt journal × Left
 ShowsAs reads HasText Shown Left apt journal old new (Err fault) = IsReadFault apt journal fault × Keeps old new
 
--- a history has a page where it is lawful, and where it has a first fault
+-- a history has a page if it is lawful, and if it has a first fault
 abbrev pub HasPage : HistoryParts → Type 0
 HasPage h = IsLawful h ⊎ ((why : ReplayFault) × IsFirstFault h why)
 

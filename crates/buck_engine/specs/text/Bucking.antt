@@ -27,7 +27,7 @@ name_in (Some a) = a.name
 abbrev pub name_of : InstructionParts → Log → List ℕ
 name_of i g = name_in (slice_get i.assortments g.assortment)
 
--- words, then each number after a blank, and last a name after a blank
+-- words, then each number after a space, and last a name after a space
 abbrev pub named_line_of : List ℕ → List ℕ → List ℕ → List ℕ
 named_line_of words numbers name = words ++ (spelled numbers ++ (codes " " ++ (name ++ codes "\n")))
 

@@ -17,7 +17,7 @@ ChecksFiles reads rule held apt [] old new outcome = (outcome ≡ Err (Read 1)) 
 ChecksFiles reads rule held apt (journal ∷ stms) old new outcome =
     WritesText (AnswersCheckWith reads rule (held apt) (held journal) (map held stms)) old new outcome
 
--- over the files that were opened; where one can't be, nothing is written
+-- over the files that were opened; if one can't be, nothing is written
 abbrev pub ChecksOpened : {F : Type 0} → ReadsApt → Option NamedRule → (F → Option (List ℕ))
     → Result (F × List F) EngineFault → Option (List ℕ) → Option (List ℕ) → Result (Unit {0}) EngineFault → Type 0
 ChecksOpened reads rule held (Ok files) old new outcome = ChecksFiles reads rule held files.0 files.1 old new outcome
@@ -30,4 +30,4 @@ pub record RunsCheck {O F : Type 0} (opens : O → List ℕ → Option F → O �
     : Type 0 where
   pub opened : Result (F × List F) EngineFault
   pub answers : AnswersInputs opens start end task.apt.now (map (λ s. s.now) task.files.items) opened
-  pub runs : ChecksOpened (apt_with task.settings) task.rule held opened old new outcome
+  pub runs : ChecksOpened (apt_with task.by.settings) task.by.rule held opened old new outcome

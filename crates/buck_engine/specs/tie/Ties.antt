@@ -18,7 +18,7 @@ use Rattle.buck_engine.specs.fleet.Running.{stems_cut_by}
 abbrev pub stems_by : ℕ → HistoryParts → List StemParts
 stems_by harvester h = flat_map option_to_list (stems_cut_by harvester h)
 
--- the stems of a harvester's file; none where it has no file
+-- the stems of a harvester's file; none if it has no file
 abbrev pub stems_of_file : List (List StemParts) → ℕ → List StemParts
 stems_of_file files harvester = slice_index_or files (harvester - 1) []
 
@@ -70,7 +70,7 @@ ArePricesAt rule h at =
 abbrev pub FollowsRule : NamedRule → HistoryParts → Type 0
 FollowsRule rule h = (at : ℕ) → at ≤ length h.postings → ArePricesAt rule h at
 
--- a price that isn't what a rule gives after some postings, where those of all classes before it are
+-- a price that isn't what a rule gives after some postings, if those of all classes before it are
 pub record IsOffRule (rule : NamedRule) (i : InstructionParts) (ps : List Posting) (prices : List ℕ)
     (place price wanted : ℕ) : Type 0 where
   pub class : Class
@@ -97,12 +97,12 @@ pub record IsPriceFault (rule : NamedRule) (h : HistoryParts) (fault : CheckFaul
   pub before : (k : ℕ) → k < at → ArePricesAt rule h k
   pub there : IsPriceFaultAt rule h at fault
 
--- a history is tied to the stem files, where there are any, and to the rule, where one is named
+-- a history is tied to the stem files, if there are any, and to the rule, if one is named
 pub record IsTied (files : List (List StemParts)) (rule : Option NamedRule) (h : HistoryParts) : Type 0 where
   pub stems : 0 < length files → CutTheirFiles files h
   pub prices : IfSome rule (λ r. FollowsRule r h)
 
--- or it isn't: to a file; or, where it is to the files, to the rule
+-- or it isn't: to a file; or, if it is to the files, to the rule
 abbrev pub IsUntied : List (List StemParts) → Option NamedRule → HistoryParts → CheckFault → Type 0
 IsUntied files rule h fault =
     ((0 < length files) × IsStemsFault files h fault)

@@ -1,4 +1,4 @@
--- What is told of a journal that isn't tied: the fault's number, then its fields in the order of their definition.
+-- How a journal that isn't tied is reported: the fault's number, then its fields in the order of their definition.
 use Rattle.std.specs.Prelude.{ℕ, List, [], ◌∷◌}
 use Rattle.buck_engine.specs.declared.tie.fault.CheckFault.{CheckFault}
 use Rattle.buck_engine.specs.declared.tie.fault.CheckFault.TheVariants.{Other, Uncut, Surplus, Price}

@@ -7,10 +7,10 @@ ghost use Rattle.buck_engine.specs.fleet.Running.{IsCuttingFault};
 ghost use Rattle.buck_engine.specs.inner.Fleet.{HasCutLists};
 
 use crate::fault::EngineFault;
-use crate::fleet::onlooker::{Onlooker, Seen};
+use crate::run::onlooker::Onlooker;
 use buck_apt::Instruction;
-use buck_book::MOST_POSTINGS;
-use buck_fleet::{Closed, Fleet, OpenFault, RunFault, Seat, run_fleet};
+use buck_book::{MOST_POSTINGS, Plan};
+use buck_fleet::{Closed, Fleet, Gate, OpenFault, RunFault, Seat, run_fleet};
 use buck_rule::{Rule, Standing};
 use buck_stem::Stem;
 use std::alloc::Global;
@@ -18,6 +18,20 @@ use std::marker::Brand;
 use std::sync::ledger::{Blank, Ledger};
 use std::sync::{Arc, Wait};
 use std::thread::Threads;
+
+/// A gate that tells an onlooker of the first plan for each stem; a stem that must be planned again is reported once.
+#[derive(Drop)]
+struct Seen<'a, O> {
+    by: &'a O,
+}
+
+impl<'a, O: Onlooker> Gate for Seen<'a, O> {
+    fn planned<R: Wait>(&self, _rt: &R, _harvester: u32, attempt: u8, _plan: &Plan) {
+        if attempt == 1 {
+            self.by.planned();
+        }
+    }
+}
 
 /// Closes a fleet.
 fn close<F: Drop, L: Ledger>(fleet: Fleet<F, L>, seats: Vec<Seat<L>>) -> Result<Closed, EngineFault>

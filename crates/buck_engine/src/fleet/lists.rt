@@ -41,7 +41,7 @@ fn stems_of_file<R: io::Read>(
     share(alloc, stems)
 }
 
-/// The stems of all stem files, file by file: each is read, and refused where it must be, before the next.
+/// The stems of all stem files, file by file: each is read, and refused if it must be, before the next.
 pub(crate) fn read_lists<R: io::Read>(
     alloc: Global,
     stms: &mut [R],
@@ -76,7 +76,7 @@ fn check_seats(number: usize) -> Result<(), EngineFault>
     Ok(())
 }
 
-/// What the files of a run say.
+/// The content of a run's files.
 #[derive(Drop)]
 pub struct Input {
     /// The instruction.
@@ -85,9 +85,9 @@ pub struct Input {
     pub lists: Vec<Vec<Arc<Stem>>>,
 }
 
-/// What an instruction file and stem files say, where there are 1 to 64 stem files: else `Seats`, before anything is
-/// read. The instruction file is file 0, the k-th stem file is file k; each is read, and refused where it must be,
-/// before the next, as [`run_in_turn`](crate::run_in_turn) says.
+/// Reads an instruction file and stem files, if there are 1 to 64 stem files: else `Seats`, before anything is read.
+/// The instruction file is file 0, the k-th stem file is file k; each is read, and refused if it must be, before the
+/// next, as [`run_in_turn`](crate::run_in_turn) says.
 pub fn read_input<R: io::Read>(
     alloc: Global,
     apt: &mut R,

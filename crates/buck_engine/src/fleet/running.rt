@@ -12,8 +12,8 @@ ghost use Rattle.buck_engine.specs.fleet.Running.{AreNoSeats, IsFleetFault, IsFl
 use crate::fault::EngineFault;
 use crate::fleet::cutting::cut_lists;
 use crate::fleet::lists::{Input, number_of_stems, read_input_with};
-use crate::fleet::onlooker::{Nobody, Onlooker};
 use crate::fleet::writing::{write_journal_and_report, write_report};
+use crate::run::onlooker::{Nobody, Onlooker};
 use buck_apt::Settings;
 use buck_fleet::Closed;
 use buck_rule::{Rule, Standing};
@@ -22,7 +22,7 @@ use std::io;
 use std::sync::Wait;
 use std::thread::Threads;
 
-/// Cuts the stems of each file by a harvester of its own, where there are 1 to 64 stem files, with a run's numbers in
+/// Cuts the stems of each file by a harvester of its own, if there are 1 to 64 stem files, with a run's numbers in
 /// the place of the instruction's own.
 pub(crate) fn cut_files<
     F: Fn(&Standing) -> u64 + Drop + Send,
@@ -47,20 +47,21 @@ pub(crate) fn cut_files<
     ensures unread { IfErr result (λ fault. fault ≡ Seats → apt.new ≡ apt.old) }
 {
     let Input { instruction, lists } = read_input_with(alloc, apt, stms, settings)?;
+    onlooker.read(&instruction, lists.as_slice());
     onlooker.cutting(number_of_stems(lists.as_slice()));
     cut_lists(rt, alloc, instruction, rule, lists.as_slice(), onlooker)
 }
 
 /// Reads an instruction file and stem files, cuts the stems of the k-th stem file by harvester k of a fleet, each in a
-/// thread of its own and in file order, and writes the fleet's journal, where one is asked for, and then its report;
+/// thread of its own and in file order, and writes the fleet's journal, if one is asked for, and then its report;
 /// see [`report_text`](crate::report_text). Nothing is written before both texts are there.
 ///
-/// The instruction file is file 0, the k-th stem file is file k; each is read, and refused where it must be, before the
-/// next. `Seats` comes where there are not 1 to 64 stem files, before anything is read, `Read` where a reader fails or
-/// a file is longer than 67,108,864 bytes, `Apt` and `Stm` where the bytes of a file are refused, `Full` where there
-/// are more stems than 1,000,000, `Memory` where a growth was refused, `Close` where the history and what the
-/// harvesters were answered differ, and `Write` where a writer fails, which leaves a prefix of the journal and no
-/// report, or the whole journal and a prefix of the report.
+/// The instruction file is file 0, the k-th stem file is file k; each is read, and refused if it must be, before the
+/// next. `Seats` comes if there are not 1 to 64 stem files, before anything is read, `Read` if a reader fails or
+/// a file is longer than 67,108,864 bytes, `Apt` and `Stm` if the bytes of a file are refused, `Full` if there are more
+/// stems than 1,000,000, `Memory` if an allocation failed, `Close` if the history and what the harvesters were answered
+/// differ, and `Write` if a writer fails, which leaves a prefix of the journal and no report, or the whole journal and
+/// a prefix of the report.
 pub fn run_fleet_files<
     F: Fn(&Standing) -> u64 + Drop + Send,
     T: Threads + Wait + Sync,
@@ -79,13 +80,13 @@ pub fn run_fleet_files<
     requires answers { AllAnswer F.Fn }
     // What is written are the texts of one history, of the instruction and the stems that the files have; a fault is
     // that of the first file that has one, or comes after all of them, and nothing is written; a write fault leaves a
-    // prefix of the journal, or all of it and a prefix of the report. Where there are not 1 to 64 stem files, that is
+    // prefix of the journal, or all of it and a prefix of the report. If there are not 1 to 64 stem files, that is
     // the fault.
     ensures run { IsFleetRun apt_of AtOnce (λ _. Unit {0}) (R.remaining apt.old) (map R.remaining stms.old)
         (of_lent J.contents journal.entry journal.exit) (W.contents out.old) (W.contents out.new) result }
-    // Where a file has a fault, nothing was read of those after it.
+    // If a file has a fault, nothing was read of those after it.
     ensures order { IfErr result (IfStopped (λ last. drop last stms.new ≡ drop last stms.old)) }
-    // Where there are not 1 to 64 stem files, nothing was read of the instruction either.
+    // If there are not 1 to 64 stem files, nothing was read of the instruction either.
     ensures unread { IfErr result (λ fault. fault ≡ Seats → apt.new ≡ apt.old) }
     // Only a failed write touches the output.
     ensures untouched { IfErr result (λ fault. fault ≢ Write → out.new ≡ out.old) }

@@ -16,8 +16,8 @@ ghost use Rattle.buck_book.specs.declared.posting.TheConstants.{MOST_POSTINGS};
 
 use crate::fault::EngineFault;
 use crate::fleet::lists::{Input, number_of_stems, read_input_with};
-use crate::fleet::onlooker::{Nobody, Onlooker};
 use crate::fleet::writing::{write_journal_and_report, write_report};
+use crate::run::onlooker::{Nobody, Onlooker};
 use buck_apt::{Instruction, Settings};
 use buck_book::{CutFault, Parts};
 use buck_rule::{Rule, Standing};
@@ -50,7 +50,7 @@ fn cut_lists<F: Fn(&Standing) -> u64 + Drop>(
     }
 }
 
-/// Cuts the stems of each file by a harvester of its own, in turn, where there are 1 to 64 stem files, with a run's
+/// Cuts the stems of each file by a harvester of its own, in turn, if there are 1 to 64 stem files, with a run's
 /// numbers in the place of the instruction's own.
 pub(crate) fn cut_files_in_turn<F: Fn(&Standing) -> u64 + Drop, R: io::Read, O: Onlooker>(
     alloc: Global,
@@ -72,22 +72,24 @@ pub(crate) fn cut_files_in_turn<F: Fn(&Standing) -> u64 + Drop, R: io::Read, O: 
     ensures unread { IfErr result (λ fault. fault ≡ Seats → apt.new ≡ apt.old) }
 {
     let Input { instruction, lists } = read_input_with(alloc, apt, stms, settings)?;
+    onlooker.read(&instruction, lists.as_slice());
     onlooker.cutting(number_of_stems(lists.as_slice()));
     cut_lists(alloc, instruction, rule, lists.as_slice())
 }
 
 /// Reads an instruction file and stem files, cuts the stems of the k-th stem file by harvester k, in turn, and writes
-/// the journal, where one is asked for, and then the report; see [`report_text`](crate::report_text). Nothing is
+/// the journal, if one is asked for, and then the report; see [`report_text`](crate::report_text). Nothing is
 /// written before both texts are there.
 ///
-/// In each round harvester k cuts the next stem of the k-th stem file, under the sheet that is then in force; who has
-/// none left is passed over. There is one thread, and nothing waits: the same files always give the same history.
+/// In each round harvester k cuts the next stem of the k-th stem file, under the sheet that is then in force; a
+/// harvester with none left is skipped. There is one thread, and nothing waits: the same files always give the same
+/// history.
 ///
-/// The instruction file is file 0, the k-th stem file is file k; each is read, and refused where it must be, before the
-/// next. `Seats` comes where there are not 1 to 64 stem files, before anything is read, `Read` where a reader fails or
-/// a file is longer than 67,108,864 bytes, `Apt` and `Stm` where the bytes of a file are refused, `Full` where there
-/// are more stems than 1,000,000, `Memory` where a growth was refused, and `Write` where a writer fails, which leaves a
-/// prefix of the journal and no report, or the whole journal and a prefix of the report. There is no `Close`.
+/// The instruction file is file 0, the k-th stem file is file k; each is read, and refused if it must be, before the
+/// next. `Seats` comes if there are not 1 to 64 stem files, before anything is read, `Read` if a reader fails or
+/// a file is longer than 67,108,864 bytes, `Apt` and `Stm` if the bytes of a file are refused, `Full` if there are more
+/// stems than 1,000,000, `Memory` if an allocation failed, and `Write` if a writer fails, which leaves a prefix of the
+/// journal and no report, or the whole journal and a prefix of the report. There is no `Close`.
 pub fn run_in_turn<F: Fn(&Standing) -> u64 + Drop, R: io::Read, J: io::Write, W: io::Write>(
     alloc: Global,
     apt: &mut R,
@@ -100,13 +102,13 @@ pub fn run_in_turn<F: Fn(&Standing) -> u64 + Drop, R: io::Read, J: io::Write, W:
     // What is written are the texts of one history, of the instruction and the stems that the files have, in the order
     // of the turns, with the rule's answers for prices; a fault is that of the first file that has one, or comes after
     // all of them, and nothing is written; a write fault leaves a prefix of the journal, or all of it and a prefix of
-    // the report. Where there are not 1 to 64 stem files, that is the fault; it is `Full` only where there are more
+    // the report. If there are not 1 to 64 stem files, that is the fault; it is `Full` only if there are more
     // stems than 1,000,000.
     ensures run { IsFleetRun apt_of InTurn (AreSheetsBy F.Fn rule) (R.remaining apt.old) (map R.remaining stms.old)
         (of_lent J.contents journal.entry journal.exit) (W.contents out.old) (W.contents out.new) result }
-    // Where a file has a fault, nothing was read of those after it.
+    // If a file has a fault, nothing was read of those after it.
     ensures order { IfErr result (IfStopped (λ last. drop last stms.new ≡ drop last stms.old)) }
-    // Where there are not 1 to 64 stem files, nothing was read of the instruction either.
+    // If there are not 1 to 64 stem files, nothing was read of the instruction either.
     ensures unread { IfErr result (λ fault. fault ≡ Seats → apt.new ≡ apt.old) }
     // Only a failed write touches the output.
     ensures untouched { IfErr result (λ fault. fault ≢ Write → out.new ≡ out.old) }

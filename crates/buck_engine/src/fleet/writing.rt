@@ -54,7 +54,7 @@ pub(crate) fn write_journal_and_report<J: io::Write, W: io::Write>(
     }
 }
 
-/// Writes the journal of a history into the file that was made for it, where there is one, and then its report.
+/// Writes the journal of a history into the file that was made for it, if there is one, and then its report.
 pub(crate) fn write_made<J: io::Write + Drop, W: io::Write>(
     alloc: Global,
     history: &Parts,

@@ -4,7 +4,7 @@ ghost use Rattle.std.specs.Prelude.{◌<◌, ◌≤◌, vec_len};
 use buck_apt::Settings;
 use buck_tables::Table;
 
-/// What is shown of journals.
+/// The form in which journals are shown.
 #[derive(Clone, Copy)]
 pub enum Shown {
     /// The page that a mill opens.
@@ -13,7 +13,7 @@ pub enum Shown {
     Table(Table),
 }
 
-/// What the words of the command line ask to be shown of journals.
+/// The arguments of a run that shows journals.
 #[derive(Drop)]
 pub struct ViewTask<'a> {
     /// The name of the instruction file.
@@ -23,7 +23,7 @@ pub struct ViewTask<'a> {
     pub shown: Shown,
     /// The numbers that are put in the place of the instruction's own.
     pub settings: Settings,
-    /// How many threads may look for outvalued cuts at once; where nothing is said, as many as the machine has.
+    /// How many threads may look for outvalued cuts at once; if nothing is said, as many as the machine has.
     pub threads: Option<u8>,
     ghost number: { (0 < vec_len journals) × (vec_len journals ≤ 64) },
 }

@@ -55,14 +55,14 @@ fn text_of_check<R: io::Read>(
     text_of_both(alloc, &both, replay_both(alloc, &both))
 }
 
-/// Reads an instruction file and then a journal, and writes `LAWFUL` with the number of postings where the journal is
+/// Reads an instruction file and then a journal, and writes `LAWFUL` with the number of postings if the journal is
 /// lawful for the instruction: each cutting is one that none outvalues under the prices then in force, and these move
 /// only by the price relation.
 ///
-/// The instruction file is file 0 and the journal is file 1. The instruction file is refused where it must be before
-/// the journal is read. `Read` comes where a reader fails or a file is longer than 67,108,864 bytes, `Apt` and
-/// `Journal` where the bytes of a file are refused, `Replay` with the first fault of a journal that isn't lawful,
-/// `Write` where the writer fails, which leaves a prefix of the text, and `Memory` where a growth was refused.
+/// The instruction file is file 0 and the journal is file 1. The instruction file is refused, if it must be, before
+/// the journal is read. `Read` comes if a reader fails or a file is longer than 67,108,864 bytes, `Apt` and
+/// `Journal` if the bytes of a file are refused, `Replay` with the first fault of a journal that isn't lawful, `Write`
+/// if the writer fails, which leaves a prefix of the text, and `Memory` if an allocation failed.
 pub fn run_check<R: io::Read, W: io::Write>(
     alloc: Global,
     apt: &mut R,
@@ -73,7 +73,7 @@ pub fn run_check<R: io::Read, W: io::Write>(
     // one, or the first of the journal, and nothing is written; a write fault leaves a prefix of the line.
     ensures run { WritesText (AnswersCheck (R.remaining apt.old) (R.remaining journal.old))
         (W.contents writer.old) (W.contents writer.new) result }
-    // Where the instruction file has a fault, nothing was read of the journal.
+    // If the instruction file has a fault, nothing was read of the journal.
     ensures order { IfErr result (IfStopped (λ last. last ≡ 0 → journal.new ≡ journal.old)) }
     // Only a failed write touches the writer.
     ensures untouched { IfErr result (λ fault. fault ≢ Write → writer.new ≡ writer.old) }

@@ -41,7 +41,7 @@ pub fn has_folder_input<R: Files>(rt: &R) -> bool {
     }
 }
 
-/// Whether it is the file behind standard input, output or error. No where the system doesn't say.
+/// Whether it is the file behind standard input, output or error. No if the system doesn't say.
 pub fn is_standard<R: Files>(rt: &R, found: &Metadata) -> bool {
     STANDARD.iter().any(|name| match rt.metadata(*name) {
         Ok(other) => Node::of(&other) == Node::of(found),
@@ -49,7 +49,7 @@ pub fn is_standard<R: Files>(rt: &R, found: &Metadata) -> bool {
     })
 }
 
-/// What is known of the files of a run beside their bytes.
+/// Facts about the files of a run beside their bytes.
 #[derive(Drop)]
 pub struct Desk {
     /// The number of the process, which stands in the names of the files that it makes beside others.
@@ -67,7 +67,7 @@ impl Desk {
         }
     }
 
-    /// Why the last file that couldn't be opened, made or written couldn't; none where the system refused nothing.
+    /// Why the last file that couldn't be opened, made or written couldn't; none if the system refused nothing.
     pub fn refused(&self) -> Option<ErrorKind> {
         self.refused.get()
     }
@@ -96,6 +96,7 @@ impl<'a, R> Disk<'a, R> {
 
     /// Whether it is one of the files that were opened to be read.
     fn is_read(&self, found: &Metadata) -> bool {
+        // Not by its name, of which a file may have several.
         let node = Node::of(found);
         self.read.iter().any(|read| *read == node)
     }
@@ -139,7 +140,7 @@ enum Way {
     Further,
 }
 
-/// A file that is written anew. A regular file keeps its text until the first write: what that one is to write goes
+/// A file whose text is replaced. A regular file keeps its text until the first write: what that one is to write goes
 /// into a new file beside it, which is synced and then takes its place at once. A file that has several names, or whose
 /// place no file can take, is emptied and written in place; what is no regular file is written in place.
 #[derive(Drop)]
@@ -193,8 +194,10 @@ impl<'a, R: Files> Renewed<'a, R> {
         let found = self.file.metadata()?;
         let mut options = OpenOptions::new();
         options.mode(found.mode() & MAY);
+        // Only a new one: another run may be writing a file of this name, or have left it.
         options.write(true).create_new(true);
         let part = options.open(self.rt, name)?;
+        // The process may have a mask that takes bits of the mode away.
         match self.grant(&part, name, &found) {
             Ok(()) => Ok(part),
             Err(error) => {
@@ -217,7 +220,7 @@ impl<'a, R: Files> Renewed<'a, R> {
         Err(io::Error::from(ErrorKind::AlreadyExists))
     }
 
-    /// Writes a text into a new file beside this one, which takes its place; in place where there can be no such file,
+    /// Writes a text into a new file beside this one, which takes its place; in place if there can be no such file,
     /// or it can't take the place.
     fn write_beside(&mut self, file: &str, text: &[u8]) -> io::Result<usize>
         ensures { WritesAtMost result text.now }
@@ -267,6 +270,7 @@ impl<'a, R: Files> Renewed<'a, R> {
 /// Writes a whole text, and has the system keep it.
 fn write_synced<F: Write + OpenFile>(file: &mut F, text: &[u8]) -> io::Result<()> {
     file.write_all(text)?;
+    // Before the rename: a machine that stops between them could keep the new name without the text.
     file.sync_all()
 }
 
@@ -303,13 +307,14 @@ impl<'a, R: Files> Disk<'a, R> {
         }
     }
 
-    /// The file of this name, to be written anew; none where it is read, or stands behind a standard stream.
+    /// The file of this name, to have its text replaced; none if it is read, or stands behind a standard stream.
     fn made(&self, name: &str) -> io::Result<Option<Renewed<'a, R>>> {
         let file = OpenOptions::new()
             .write(true)
             .create(true)
             .open(self.rt, name)?;
         let found = file.metadata()?;
+        // Written by its name, the file of a standard stream would lose one of two texts.
         if found.is_file() && (self.is_read(&found) || is_standard(self.rt, &found)) {
             return Ok(None);
         }

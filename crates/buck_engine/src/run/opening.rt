@@ -15,21 +15,21 @@ pub trait Open {
 
     ghost opens: { Self → List ℕ → Option Self.File → Self → Type 0 };
 
-    /// The file of this name, or none where it can't be opened.
+    /// The file of this name, or none if it can't be opened.
     fn open(&mut self, name: &str) -> Option<Self::File>
         ensures { opens self.old name.now result self.new };
 }
 
 /// Makes files by their names.
 pub trait Make {
-    /// A file that is written anew. What stood in it stays there while nothing is written. What the first write is to
-    /// write takes its place, at once where that can be: a text that is given to one write whole is there whole, or not
-    /// at all.
+    /// A file whose text is replaced. What stood in it stays there while nothing is written. What the first write is to
+    /// write takes its place, at once if that can be: a text that is given to one write whole is there whole, or not at
+    /// all.
     type Made: io::Write + Drop;
 
     ghost makes: { Self → List ℕ → Option Self.Made → Self → Type 0 };
 
-    /// The file of this name, to be written anew; an empty one is made where there is none. None where it can't be
+    /// The file of this name, to have its text replaced; an empty one is made if there is none. None if it can't be
     /// opened or made, or is one of the files that are read or stand behind a standard stream.
     fn make(&mut self, name: &str) -> Option<Self::Made>
         ensures { makes self.old name.now result self.new };
@@ -52,7 +52,7 @@ pub(crate) fn open_both<O: Open>(
     Ok((instruction, stems))
 }
 
-/// The number of the stem file at a place: one more. A number that a fault can't hold is told as 4,294,967,295.
+/// The number of the stem file at a place: one more. A number that a fault can't hold becomes 4,294,967,295.
 fn number_at(place: usize) -> u32
     ensures { result ≡ min (place + 1) 4294967295 }
 {
@@ -98,7 +98,7 @@ pub fn open_inputs<O: Open>(
     Ok((instruction, stems))
 }
 
-/// Makes the file of the journal, where one is wanted. One that can't be made is `Write`.
+/// Makes the file of the journal, if one is wanted. One that can't be made is `Write`.
 pub fn make_journal<M: Make>(
     maker: &mut M,
     name: Option<&str>,

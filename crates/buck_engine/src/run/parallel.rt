@@ -8,32 +8,35 @@ ghost use Rattle.buck_engine.specs.run.Serving.{RunsFiles};
 ghost use Rattle.buck_engine.specs.inner.Text.{joined_in};
 
 use crate::fault::EngineFault;
+use crate::run::onlooker::{Nobody, Onlooker};
 use crate::run::opening::{Open, open_both};
 use crate::run::reading::{read_instruction, read_stems_in_parts};
-use crate::run::threads::number_of_threads;
+use crate::run::workers::number_of_threads;
 use crate::text::bucking::buck_text_in_parts;
 use crate::text::writing::write_pieces;
 use std::alloc::Global;
 use std::io;
+use std::slice::from_ref;
 use std::thread::Threads;
 
-/// What the words of the command line ask of a bucking.
+/// The arguments of a bucking.
 #[derive(Drop)]
 pub struct BuckTask<'a> {
     /// The name of the instruction file.
     pub apt: &'a str,
     /// The name of the stem file.
     pub stm: &'a str,
-    /// How many threads may read or cut stems at once; where nothing is said, as many as the machine has.
+    /// How many threads may read or cut stems at once; if nothing is said, as many as the machine has.
     pub threads: Option<u8>,
 }
 
 /// The text of an instruction file and a stem file in pieces, whose stems are read and cut in at most so many threads at
-/// once.
-fn text_in_parts<T: Threads + Sync, R: io::Read>(
+/// once. An onlooker is shown the files.
+fn text_in_parts<T: Threads + Sync, L: Onlooker, R: io::Read>(
     rt: &T,
     alloc: Global,
     threads: usize,
+    onlooker: &L,
     apt: &mut R,
     stm: &mut R,
 ) -> Result<Vec<Vec<u8>>, EngineFault>
@@ -43,12 +46,13 @@ fn text_in_parts<T: Threads + Sync, R: io::Read>(
 {
     let instruction = read_instruction(alloc, apt)?;
     let stems = read_stems_in_parts(rt, alloc, stm, 1, threads)?;
+    onlooker.read(&instruction, from_ref(&stems));
     Ok(buck_text_in_parts(rt, alloc, &instruction, stems.as_slice(), threads)?)
 }
 
-/// [`run_buck`](crate::run_buck), for which the stems are read and cut in several threads at once: in as many as are
-/// told, from 1 to 64, or, where nothing is said, in as many as the machine has. What is written, and each fault, are
-/// those of [`run_buck`](crate::run_buck), whatever the number.
+/// [`run_buck`](crate::run_buck) with the stems read and cut in several threads at once: in the given number, from 1 to
+/// 64, or, if none is given, in as many as the machine has. What is written, and each fault, are those of
+/// [`run_buck`](crate::run_buck), whatever the number.
 pub fn run_buck_in_parts<T: Threads + Sync, R: io::Read, W: io::Write>(
     rt: &T,
     alloc: Global,
@@ -61,22 +65,42 @@ pub fn run_buck_in_parts<T: Threads + Sync, R: io::Read, W: io::Write>(
     // file that has one, and nothing is written; a write fault leaves a prefix of the text.
     ensures run { WritesText (AnswersBuck (R.remaining apt.old) (R.remaining stm.old))
         (W.contents writer.old) (W.contents writer.new) result }
-    // Where the instruction file has a fault, nothing was read of the stem file.
+    // If the instruction file has a fault, nothing was read of the stem file.
     ensures order { IfErr result (IfStopped (λ last. last ≡ 0 → stm.new ≡ stm.old)) }
     // Only a failed write touches the writer.
     ensures untouched { IfErr result (λ fault. fault ≢ Write → writer.new ≡ writer.old) }
 {
-    let pieces = text_in_parts(rt, alloc, number_of_threads(rt, threads), apt, stm)?;
+    let threads = number_of_threads(rt, threads);
+    let pieces = text_in_parts(rt, alloc, threads, &Nobody, apt, stm)?;
+    write_pieces(writer, pieces.as_slice())
+}
+
+/// Bucks the stems of two files in several threads at once. An onlooker is shown the files.
+fn buck_opened<T: Threads + Sync, L: Onlooker, R: io::Read, W: io::Write>(
+    rt: &T,
+    alloc: Global,
+    threads: Option<u8>,
+    onlooker: &L,
+    apt: &mut R,
+    stm: &mut R,
+    writer: &mut W,
+) -> Result<(), EngineFault>
+    ensures { WritesText (AnswersBuck (R.remaining apt.old) (R.remaining stm.old))
+        (W.contents writer.old) (W.contents writer.new) result }
+{
+    let threads = number_of_threads(rt, threads);
+    let pieces = text_in_parts(rt, alloc, threads, onlooker, apt, stm)?;
     write_pieces(writer, pieces.as_slice())
 }
 
 /// Bucks the stems of a task's files in several threads at once. The files are opened, the instruction file first,
 /// before one of them is read; one that can't be opened is `Read` with its number. Each fault and what is written before
-/// it are those of [`run_buck`](crate::run_buck).
-pub fn serve_buck<T: Threads + Sync, O: Open, W: io::Write>(
+/// it are those of [`run_buck`](crate::run_buck). The onlooker is shown what was read.
+pub fn serve_buck<T: Threads + Sync, L: Onlooker, O: Open, W: io::Write>(
     rt: &T,
     alloc: Global,
     task: &BuckTask<'_>,
+    onlooker: &L,
     opener: &mut O,
     writer: &mut W,
 ) -> Result<(), EngineFault>
@@ -84,10 +108,11 @@ pub fn serve_buck<T: Threads + Sync, O: Open, W: io::Write>(
         (W.contents writer.old) (W.contents writer.new) result }
 {
     let (mut instruction, mut stems) = open_both(opener, task.apt, task.stm)?;
-    run_buck_in_parts(
+    buck_opened(
         rt,
         alloc,
         task.threads,
+        onlooker,
         &mut instruction,
         &mut stems,
         writer,

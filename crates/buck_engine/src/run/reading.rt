@@ -16,8 +16,8 @@ use std::thread::Threads;
 /// The most bytes that a file may have.
 const LIMIT: usize = 67_108_864;
 
-/// All bytes of the file of this number. `Read` where the reader fails or gives more than 67,108,864 bytes, and
-/// `Memory` where a growth was refused.
+/// All bytes of the file of this number. `Read` if the reader fails or gives more than 67,108,864 bytes, and `Memory`
+/// if an allocation failed.
 pub fn read_file<R: io::Read>(
     alloc: Global,
     reader: &mut R,
@@ -29,6 +29,7 @@ pub fn read_file<R: io::Read>(
 {
     let mut bytes = Vec::new(alloc);
     let mut chunk = [0u8; 65_536];
+    // Each turn reads a byte at least, so the end or a byte too many comes before the turns run out.
     for _ in 0..LIMIT + 2 {
         let Ok(count) = reader.read(&mut chunk) else {
             return Err(EngineFault::Read { file });
@@ -86,8 +87,8 @@ fn stems_in_parts<T: Threads + Sync>(
     }
 }
 
-/// The instruction that the instruction file has, file 0. `Read` where the reader fails or the file is longer than
-/// 67,108,864 bytes, `Apt` where its bytes are refused, and `Memory` where a growth was refused.
+/// The instruction that the instruction file has, file 0. `Read` if the reader fails or the file is longer than
+/// 67,108,864 bytes, `Apt` if its bytes are refused, and `Memory` if an allocation failed.
 pub fn read_instruction<R: io::Read>(alloc: Global, apt: &mut R) -> Result<Instruction, EngineFault>
     ensures ok { IfOk result (λ instruction. Says apt_of (R.remaining apt.old) (Ok instruction)) }
     ensures refused { IfErr result (IsAptFault (R.remaining apt.old)) }

@@ -14,6 +14,7 @@ ghost use Rattle.buck_book.specs.declared.posting.TheConstants.{MOST_POSTINGS};
 use crate::fault::{EngineFault, TextFault};
 use crate::run::both::read_postings;
 use crate::run::reading::read_instruction_with;
+use crate::run::workers::OneThread;
 use crate::text::report::{Ending, report_with};
 use crate::text::writing::write_text;
 use buck_apt::{Instruction, Settings};
@@ -92,7 +93,7 @@ fn text_of_report<R: io::Read>(
     ensures order { IfErr result (IfStopped (λ last. last ≡ 0 → journal.new ≡ journal.old)) }
 {
     let instruction = Arc::new(alloc, read_instruction_with(alloc, apt, settings)?)?;
-    let postings = read_postings(alloc, journal)?;
+    let postings = read_postings(&OneThread, alloc, journal)?;
     text_of_replay(alloc, &instruction, &postings)
 }
 
@@ -109,7 +110,7 @@ fn text_of_own_report<R: io::Read>(
 }
 
 /// Reads an instruction file and then a journal, as [`run_check`](crate::run_check) does, and writes the report of the
-/// journal's history where that is lawful, as the fleet printed it that wrote the journal; see
+/// journal's history if that is lawful, as the fleet printed it that wrote the journal; see
 /// [`report_text`](crate::report_text). Each fault is that of [`run_check`](crate::run_check).
 pub fn run_report<R: io::Read, W: io::Write>(
     alloc: Global,
@@ -121,7 +122,7 @@ pub fn run_report<R: io::Read, W: io::Write>(
     // one, or the first of the journal, and nothing is written; a write fault leaves a prefix of the report.
     ensures run { WritesText (AnswersReport (R.remaining apt.old) (R.remaining journal.old))
         (W.contents writer.old) (W.contents writer.new) result }
-    // Where the instruction file has a fault, nothing was read of the journal.
+    // If the instruction file has a fault, nothing was read of the journal.
     ensures order { IfErr result (IfStopped (λ last. last ≡ 0 → journal.new ≡ journal.old)) }
     // Only a failed write touches the writer.
     ensures untouched { IfErr result (λ fault. fault ≢ Write → writer.new ≡ writer.old) }

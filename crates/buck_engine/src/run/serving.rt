@@ -2,16 +2,17 @@
 ghost use Rattle.std.specs.Prelude.{◌≡◌, true, false, Result};
 ghost use Rattle.std.specs.Io.KnownBytes.{Keeps};
 ghost use Rattle.buck_engine.specs.declared.fault.EngineFault.{EngineFault};
-ghost use Rattle.buck_engine.specs.text.Written.{IsWritten};
+ghost use Rattle.buck_engine.specs.text.Written.{IsWritten, WritesText};
 ghost use Rattle.buck_engine.specs.Faults.{fault_line};
 ghost use Rattle.buck_engine.specs.run.Checking.{AnswersCheck, AnswersJournal, IsJournalReport};
-ghost use Rattle.buck_engine.specs.run.Bucking.{AnswersBuck};
+ghost use Rattle.buck_engine.specs.run.Bucking.{AnswersBare, AnswersBuck};
 ghost use Rattle.buck_engine.specs.run.Reading.{apt_with};
 ghost use Rattle.buck_engine.specs.run.Serving.{AppendsFirst, RunsFiles, RunsTask, TellsOutcome, status_after};
 
 use crate::fault::{EngineFault, status};
-use crate::run::bucking::{run_bare, run_buck};
+use crate::run::bucking::{text_of_one, text_of_two};
 use crate::run::checking::run_check;
+use crate::run::onlooker::Onlooker;
 use crate::run::opening::{Open, open_both};
 use crate::run::reporting::run_report_with;
 use crate::text::writing::{write_fault, write_text};
@@ -19,7 +20,7 @@ use buck_apt::Settings;
 use std::alloc::Global;
 use std::io;
 
-/// What the words of the command line ask for.
+/// The task of a run: its command and the arguments.
 #[derive(Drop)]
 pub enum Task<'a> {
     /// Both files stand on standard input, with a `|` between them.
@@ -43,9 +44,25 @@ pub enum Task<'a> {
     },
 }
 
-/// Opens both files by their names, the instruction file first, and then runs over them.
-fn run_files<O: Open, W: io::Write>(
+/// Bucks the stems of two files, which an onlooker is shown.
+fn buck_opened<L: Onlooker, R: io::Read, W: io::Write>(
     alloc: Global,
+    onlooker: &L,
+    apt: &mut R,
+    stm: &mut R,
+    writer: &mut W,
+) -> Result<(), EngineFault>
+    ensures { WritesText (AnswersBuck (R.remaining apt.old) (R.remaining stm.old))
+        (W.contents writer.old) (W.contents writer.new) result }
+{
+    let text = text_of_two(alloc, onlooker, apt, stm)?;
+    write_text(writer, text.as_slice())
+}
+
+/// Opens both files by their names, the instruction file first, and then bucks the stems.
+fn buck_files<L: Onlooker, O: Open, W: io::Write>(
+    alloc: Global,
+    onlooker: &L,
     opener: &mut O,
     apt: &str,
     stm: &str,
@@ -55,7 +72,20 @@ fn run_files<O: Open, W: io::Write>(
         (W.contents writer.old) (W.contents writer.new) result }
 {
     let (mut instruction, mut stems) = open_both(opener, apt, stm)?;
-    run_buck(alloc, &mut instruction, &mut stems, writer)
+    buck_opened(alloc, onlooker, &mut instruction, &mut stems, writer)
+}
+
+/// Bucks the stems of an input, which an onlooker is shown.
+fn buck_input<L: Onlooker, R: io::Read, W: io::Write>(
+    alloc: Global,
+    onlooker: &L,
+    input: &mut R,
+    writer: &mut W,
+) -> Result<(), EngineFault>
+    ensures { WritesText (AnswersBare (R.remaining input.old)) (W.contents writer.old) (W.contents writer.new) result }
+{
+    let text = text_of_one(alloc, onlooker, input)?;
+    write_text(writer, text.as_slice())
 }
 
 /// Opens both files by their names, the instruction file first, and then checks the journal.
@@ -91,14 +121,15 @@ fn report_files<O: Open, W: io::Write>(
     run_report_with(alloc, &mut instruction, &mut postings, settings, writer)
 }
 
-/// Does what the task asks for.
+/// Does what the task asks for. If stems are cut, the onlooker is shown what was read.
 ///
 /// The files of a task are opened in the order of its words before one of them is read; one that can't be opened is
-/// `Read` with its number. Each fault and what is written before it are those of [`run_buck`], [`run_bare`],
-/// [`run_check`] and [`run_report`](crate::run_report).
-pub fn serve<R: io::Read, O: Open, W: io::Write>(
+/// `Read` with its number. Each fault and what is written before it are those of [`run_buck`](crate::run_buck),
+/// [`run_bare`](crate::run_bare), [`run_check`] and [`run_report`](crate::run_report).
+pub fn serve<L: Onlooker, R: io::Read, O: Open, W: io::Write>(
     alloc: Global,
     task: &Task<'_>,
+    onlooker: &L,
     input: &mut R,
     opener: &mut O,
     writer: &mut W,
@@ -107,8 +138,8 @@ pub fn serve<R: io::Read, O: Open, W: io::Write>(
         (W.contents writer.old) (W.contents writer.new) result }
 {
     match task {
-        Task::Bare => run_bare(alloc, input, writer),
-        Task::Buck { apt, stm } => run_files(alloc, opener, *apt, *stm, writer),
+        Task::Bare => buck_input(alloc, onlooker, input, writer),
+        Task::Buck { apt, stm } => buck_files(alloc, onlooker, opener, *apt, *stm, writer),
         Task::Check { apt, journal } => check_files(alloc, opener, *apt, *journal, writer),
         Task::Report {
             apt,
@@ -118,7 +149,7 @@ pub fn serve<R: io::Read, O: Open, W: io::Write>(
     }
 }
 
-/// Writes first bytes of the line of a fault: all of it, where the writer takes them.
+/// Writes first bytes of the line of a fault: all of it, if the writer takes them.
 #[tactic(auto, using(crate::proofs::WrittenLemmas::first_told))]
 fn tell_fault<E: io::Write>(errors: &mut E, fault: &EngineFault)
     ensures { AppendsFirst (E.contents errors.old) (E.contents errors.new) (fault_line fault.now) }
@@ -146,7 +177,7 @@ fn status_after(outcome: &Result<(), EngineFault>) -> u8
     }
 }
 
-/// Says how a run ended: nothing where it went well, and else the line of the fault. The answer is the exit status.
+/// Says how a run ended: nothing if it went well, and else the line of the fault. The answer is the exit status.
 pub fn conclude<E: io::Write>(errors: &mut E, outcome: &Result<(), EngineFault>) -> u8
     ensures status { result ≡ status_after outcome.now }
     ensures told { TellsOutcome (E.contents errors.old) (E.contents errors.new) outcome.now }

@@ -9,13 +9,13 @@ ghost use Rattle.buck_book.specs.declared.posting.TheConstants.{MOST_POSTINGS};
 
 use crate::fault::EngineFault;
 use crate::run::reading::{read_file, read_instruction_with};
+use crate::run::workers::Workers;
 use buck_apt::{Instruction, Settings};
 use buck_book::MOST_POSTINGS;
-use buck_journal::{Journal, JournalFault, ReplayFault, read_journal_in_parts, replay_in_parts};
+use buck_journal::{Journal, JournalFault, ReplayFault};
 use std::alloc::Global;
 use std::io;
 use std::sync::Arc;
-use std::thread::Threads;
 
 /// The place of a journal among some, and how many there are.
 #[derive(Clone, Copy)]
@@ -25,7 +25,7 @@ pub(crate) struct Among {
     ghost within: { (place < number) × (number ≤ 64) },
 }
 
-/// The refusal of a journal: it has the journal's number, where there are several.
+/// The refusal of a journal: it has the journal's number, if there are several.
 fn refused_among(among: Among, fault: JournalFault) -> EngineFault
     ensures { result ≡ journal_fault among.number among.place fault }
 {
@@ -39,7 +39,7 @@ fn refused_among(among: Among, fault: JournalFault) -> EngineFault
     }
 }
 
-/// The fault of a journal that isn't lawful: it has the journal's number, where there are several.
+/// The fault of a journal that isn't lawful: it has the journal's number, if there are several.
 pub(crate) fn unlawful_among(among: Among, fault: ReplayFault) -> EngineFault
     ensures { result ≡ replay_fault among.number among.place fault }
 {
@@ -68,34 +68,34 @@ pub struct Unlawful {
     pub fault: ReplayFault,
 }
 
-/// The journal that a journal's file has, read in at most so many threads at once.
-fn journal_among<T: Threads + Sync, R: io::Read>(
-    rt: &T,
+/// The journal that a journal's file has.
+fn journal_among<T: Workers, R: io::Read>(
+    workers: &T,
     alloc: Global,
-    threads: usize,
     reader: &mut R,
     among: Among,
 ) -> Result<Journal, EngineFault>
+    requires share { T.can_share }
     ensures ok { IfOk result (λ journal. Says journal_of (R.remaining reader.old) (Ok journal)) }
     ensures few { IfOk result (λ journal. length journal.entries ≤ MOST_POSTINGS) }
     ensures refused { IfErr result (IsFileFault (among.place + 1) (journal_fault among.number among.place) journal_of
         (R.remaining reader.old)) }
 {
     let bytes = read_file(alloc, reader, among.place as u32 + 1)?;
-    match read_journal_in_parts(rt, alloc, bytes.as_slice(), threads) {
+    match workers.read_journal(alloc, bytes.as_slice()) {
         Ok(journal) => Ok(journal),
         Err(JournalFault::Memory) => Err(EngineFault::Memory),
         Err(fault) => Err(refused_among(among, fault)),
     }
 }
 
-/// The journals that some files have: each is read, and refused where it must be, before the next.
-fn read_journals<T: Threads + Sync, R: io::Read>(
-    rt: &T,
+/// The journals that some files have: each is read, and refused if it must be, before the next.
+fn read_journals<T: Workers, R: io::Read>(
+    workers: &T,
     alloc: Global,
-    threads: usize,
     files: &mut [R],
 ) -> Result<Vec<Journal>, EngineFault>
+    requires share { T.can_share }
     requires few { length files.old ≤ 64 }
     ensures journals { IfOk result (λ journals. HaveJournals (map R.remaining files.old) journals.items) }
     ensures few { IfOk result (λ journals. AreEachFew journals.items) }
@@ -105,7 +105,7 @@ fn read_journals<T: Threads + Sync, R: io::Read>(
     let mut journals = Vec::new(alloc);
     for place in 0..number {
         let among = Among { place, number };
-        match journal_among(rt, alloc, threads, &mut files[place], among) {
+        match journal_among(workers, alloc, &mut files[place], among) {
             Ok(journal) => journals.push(journal)?,
             Err(fault) => return Err(fault),
         }
@@ -127,20 +127,19 @@ fn are_few(journals: &[Journal]) -> bool
 }
 
 /// The instruction and the journals that some files have, with a run's numbers in the place of the instruction's own.
-/// The postings of each journal are read in at most so many threads at once.
 ///
-/// The instruction file is file 0, the k-th journal is file k; each is read, and refused where it must be, before the
-/// next. `Read` where a reader fails or a file is longer than 67,108,864 bytes, `Apt`, and `Journal` or `JournalOf`,
-/// where the bytes of a file are refused, `Full` where there are more than 1,000,000 postings together, and `Memory`
-/// where a growth was refused.
-pub fn read_several<T: Threads + Sync, R: io::Read>(
-    rt: &T,
+/// The instruction file is file 0, the k-th journal is file k; each is read, and refused if it must be, before the
+/// next. `Read` if a reader fails or a file is longer than 67,108,864 bytes, `Apt`, and `Journal` or `JournalOf`,
+/// if the bytes of a file are refused, `Full` if there are more than 1,000,000 postings together, and `Memory` if an
+/// allocation failed.
+pub fn read_several<T: Workers, R: io::Read>(
+    workers: &T,
     alloc: Global,
-    threads: usize,
     apt: &mut R,
     files: &mut [R],
     settings: &Settings,
 ) -> Result<Several, EngineFault>
+    requires share { T.can_share }
     requires number { length files.old ≤ 64 }
     ensures instruction { IfOk result (λ s.
         Says (apt_with settings.now) (R.remaining apt.old) (Ok s.instruction.value)) }
@@ -149,7 +148,7 @@ pub fn read_several<T: Threads + Sync, R: io::Read>(
     ensures refused { IfErr result (IsSeveralFault (R.remaining apt.old) (map R.remaining files.old)) }
 {
     let instruction = Arc::new(alloc, read_instruction_with(alloc, apt, settings)?)?;
-    let journals = read_journals(rt, alloc, threads, files)?;
+    let journals = read_journals(workers, alloc, files)?;
     if !are_few(journals.as_slice()) {
         return Err(EngineFault::Full);
     }
@@ -159,15 +158,13 @@ pub fn read_several<T: Threads + Sync, R: io::Read>(
     })
 }
 
-/// Whether each journal is lawful for the instruction, each found in at most so many threads at once: the first that
-/// isn't, with its first fault.
-pub fn replay_several<T: Threads + Sync>(
-    rt: &T,
+/// Whether each journal is lawful for the instruction: the first that isn't, with its first fault.
+pub fn replay_several<T: Workers>(
+    workers: &T,
     alloc: Global,
-    threads: usize,
     several: &Several,
 ) -> Result<(), Unlawful>
-    requires threads { 0 < threads }
+    requires share { T.can_share }
     requires few { length (postings_of several.now.journals.items) ≤ MOST_POSTINGS }
     ensures lawful { OnOk result (AreLawful several.now.instruction.value several.now.journals.items) }
     ensures within { IfErr result (λ u. u.place < length several.now.journals.items) }
@@ -176,7 +173,7 @@ pub fn replay_several<T: Threads + Sync>(
 {
     for place in 0..several.journals.len() {
         let journal = &several.journals[place];
-        match replay_in_parts(rt, alloc, threads, &several.instruction, journal) {
+        match workers.replay(alloc, &several.instruction, journal) {
             Ok(()) => {}
             Err(fault) => return Err(Unlawful { place, fault }),
         }

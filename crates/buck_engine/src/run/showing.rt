@@ -13,8 +13,8 @@ use crate::fault::EngineFault;
 use crate::run::asked::{Shown, ViewTask};
 use crate::run::opening::{Open, open_inputs};
 use crate::run::several::{Among, Several, Unlawful, read_several, replay_several, unlawful_among};
-use crate::run::threads::number_of_threads;
 use crate::run::viewing::{page_of, table_in, write_page, write_table};
+use crate::run::workers::{SeveralThreads, Workers};
 use buck_journal::ReplayFault;
 use buck_record::Memory;
 use buck_tables::Table;
@@ -131,21 +131,21 @@ fn show_table<W: io::Write>(
 
 /// Shows what the task asks for, over the files that are open.
 #[tactic(auto, using(crate::proofs::Several::shown))]
-fn show_opened<T: Threads + Sync, R: io::Read, W: io::Write>(
-    rt: &T,
+fn show_opened<T: Workers, R: io::Read, W: io::Write>(
+    workers: &T,
     alloc: Global,
     task: &ViewTask<'_>,
     apt: &mut R,
     files: &mut [R],
     writer: &mut W,
 ) -> Result<(), EngineFault>
+    requires share { T.can_share }
     requires number { (0 < length files.old) × (length files.old ≤ 64) }
     ensures { Shows (apt_with task.now.settings) task.now.shown (R.remaining apt.old) (map R.remaining files.old)
         (W.contents writer.old) (W.contents writer.new) result }
 {
-    let threads = number_of_threads(rt, task.threads);
-    let several = read_several(rt, alloc, threads, apt, files, &task.settings)?;
-    let replayed = replay_several(rt, alloc, threads, &several);
+    let several = read_several(workers, alloc, apt, files, &task.settings)?;
+    let replayed = replay_several(workers, alloc, &several);
     match task.shown {
         Shown::Page => show_page(alloc, task, &several, replayed, writer),
         Shown::Table(table) => show_table(alloc, &several, replayed, table, writer),
@@ -156,8 +156,8 @@ fn show_opened<T: Threads + Sync, R: io::Read, W: io::Write>(
 ///
 /// The instruction file is opened and then the journals in their order, before one of them is read; one that can't be
 /// opened is `Read` with its number. All are read before one is replayed, and the first that is refused, or else the
-/// first that isn't lawful, is the fault, with its number where there are several; of one journal each fault and what
-/// is written before it are those of [`run_view`](crate::run_view) and [`run_table`](crate::run_table). `Full` where
+/// first that isn't lawful, is the fault, with its number if there are several; of one journal each fault and what
+/// is written before it are those of [`run_view`](crate::run_view) and [`run_table`](crate::run_table). `Full` if
 /// the journals have more than 1,000,000 postings together. The instruction is read, and refused, by its own numbers;
 /// then those of the task take their place.
 pub fn serve_view<T: Threads + Sync, O: Open, W: io::Write>(
@@ -173,7 +173,7 @@ pub fn serve_view<T: Threads + Sync, O: Open, W: io::Write>(
     let journals = task.journals.as_slice();
     let (mut instruction, mut files) = open_inputs(alloc, opener, task.apt, journals)?;
     show_opened(
-        rt,
+        &SeveralThreads::of(rt, task.threads),
         alloc,
         task,
         &mut instruction,

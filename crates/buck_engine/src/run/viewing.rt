@@ -98,7 +98,7 @@ fn write_fault_page<W: io::Write>(
     }
 }
 
-/// Writes the page of a journal, by what came of its replay: where it isn't lawful, that of its first fault.
+/// Writes the page of a journal, by what came of its replay: if it isn't lawful, that of its first fault.
 #[tactic(auto, using(crate::proofs::Pages::histories))]
 pub(crate) fn show_both<W: io::Write>(
     alloc: Global,
@@ -125,7 +125,7 @@ pub(crate) fn show_both<W: io::Write>(
 }
 
 /// Reads an instruction file and then a journal, and writes the page of the journal, in which the files are named so.
-/// Where the journal isn't lawful for the instruction, it writes the page of its first fault, and the answer is
+/// If the journal isn't lawful for the instruction, it writes the page of its first fault, and the answer is
 /// `Replay` with that fault. Nothing is written before the whole page is there.
 ///
 /// The files are read, and refused, as by [`run_check`](crate::run_check).
@@ -137,11 +137,11 @@ pub fn run_view<R: io::Read, W: io::Write>(
     files: &Files<'_>,
     writer: &mut W,
 ) -> Result<(), EngineFault>
-    // A page is written of a lawful journal, or the page of its first fault; where a file has a fault nothing is
-    // written; where the output can't be written, some first bytes of such a page may be.
+    // A page is written of a lawful journal, or the page of its first fault; if a file has a fault nothing is
+    // written; if the output can't be written, some first bytes of such a page may be.
     ensures run { ShowsPage apt_of (R.remaining apt.old) (R.remaining journal.old)
         (W.contents writer.old) (W.contents writer.new) result }
-    // Where the instruction file has a fault, nothing was read of the journal.
+    // If the instruction file has a fault, nothing was read of the journal.
     ensures order { IfErr result (IfStopped (λ last. last ≡ 0 → journal.new ≡ journal.old)) }
 {
     let both = read_own(alloc, apt, journal)?;
@@ -162,7 +162,7 @@ pub(crate) fn write_table<W: io::Write>(
     write_text(writer, text.as_slice())
 }
 
-/// Writes a table of a journal, by what came of its replay: where it is lawful.
+/// Writes a table of a journal, by what came of its replay: if it is lawful.
 #[tactic(auto, using(crate::proofs::Pages::lists))]
 pub(crate) fn list_both<W: io::Write>(
     alloc: Global,
@@ -188,7 +188,7 @@ pub(crate) fn list_both<W: io::Write>(
     }
 }
 
-/// Reads an instruction file and then a journal, and writes a table of the journal, where it is lawful for the
+/// Reads an instruction file and then a journal, and writes a table of the journal, if it is lawful for the
 /// instruction. Nothing is written before the whole table is there.
 ///
 /// The files are read, and refused, as by [`run_check`](crate::run_check).
@@ -201,10 +201,10 @@ pub fn run_table<R: io::Read, W: io::Write>(
     writer: &mut W,
 ) -> Result<(), EngineFault>
     // A table is written of a lawful journal; a fault is that of the first file that has one, or the first of the
-    // journal, and nothing is written; where the output can't be written, some first bytes of it may be.
+    // journal, and nothing is written; if the output can't be written, some first bytes of it may be.
     ensures run { ShowsTable apt_of (R.remaining apt.old) (R.remaining journal.old)
         (W.contents writer.old) (W.contents writer.new) result }
-    // Where the instruction file has a fault, nothing was read of the journal.
+    // If the instruction file has a fault, nothing was read of the journal.
     ensures order { IfErr result (IfStopped (λ last. last ≡ 0 → journal.new ≡ journal.old)) }
     // Only a failed write touches the writer.
     ensures untouched { IfErr result (λ fault. fault ≢ Write → writer.new ≡ writer.old) }

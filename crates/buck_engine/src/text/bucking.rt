@@ -60,7 +60,7 @@ fn put_log(out: &mut Vec<u8>, sheet: &Sheet, stem: &Stem, log: &Log) -> Result<(
     put_named_line(out, b"LOG", &numbers, assortment.name())
 }
 
-/// Puts a line for each log, as [`buck_text`] does, by the prices of a sheet. `Memory` where a growth was refused.
+/// Puts a line for each log, as [`buck_text`] does, by the prices of a sheet. `Memory` if an allocation failed.
 pub fn put_logs(out: &mut Vec<u8>, sheet: &Sheet, stem: &Stem, logs: &[Log]) -> Result<(), Memory>
     requires { All (λ g. IsAllowed sheet.now.instruction stem.now g) logs.now }
     ensures { OnOk result (out.new.items ≡ out.old.items ++ flat_map (log_line sheet.now stem.now) logs.now) }
@@ -71,8 +71,8 @@ pub fn put_logs(out: &mut Vec<u8>, sheet: &Sheet, stem: &Stem, logs: &[Log]) -> 
     Ok(())
 }
 
-/// Puts the line of a stem, as [`buck_text`] does: it says how many logs there are and their worth. `Memory` where a
-/// growth was refused.
+/// Puts the line of a stem, as [`buck_text`] does: it says how many logs there are and their worth. `Memory` if an
+/// allocation failed.
 #[tactic(auto, unfolding(crate::specs::text::Bucking::stem_line))]
 pub fn put_stem(out: &mut Vec<u8>, stem: &Stem, logs: usize, worth: u64) -> Result<(), Memory>
     ensures { OnOk result (out.new.items ≡ out.old.items ++ stem_line stem.now logs worth) }
@@ -227,7 +227,7 @@ fn runs_of<T: Threads + Sync>(
 /// ```
 ///
 /// a `STEM` line for each stem with a `LOG` line for each of its logs, from the butt on, and the `TOTAL` once. Places,
-/// lengths and diameters are in mm, worths in millionths of the price unit. `Memory` where a growth was refused.
+/// lengths and diameters are in mm, worths in millionths of the price unit. `Memory` if an allocation failed.
 pub fn buck_text(
     alloc: Global,
     instruction: &Instruction,

@@ -43,7 +43,7 @@ impl<'a> Model for Ending<'a> {
     }) };
 }
 
-/// Puts the line of a posting at a position, as [`report_text`] does. `Memory` where a growth was refused.
+/// Puts the line of a posting at a position, as [`report_text`] does. `Memory` if an allocation failed.
 pub fn put_posting(out: &mut Vec<u8>, at: usize, posting: &Posting) -> Result<(), Memory>
     ensures { OnOk result (out.new.items ≡ out.old.items ++ posting_line at posting.now) }
 {
@@ -252,7 +252,7 @@ pub(crate) fn report_with(
 }
 
 /// The degree of apportionment of the assortment at a place, in ten-thousandths, rounded down once: how far the logs
-/// that were cut have the proportions of those wanted by the targets in force at the end. None where nothing is wanted
+/// that were cut have the proportions of those wanted by the targets in force at the end. None if nothing is wanted
 /// of it or nothing was cut.
 pub fn degree(closed: &Closed, assortment: usize) -> Option<u32>
     requires exists { assortment < length closed.now.history.instruction.assortments }
@@ -291,7 +291,7 @@ pub(crate) fn report_of(alloc: Global, parts: &Parts) -> Result<Vec<u8>, TextFau
 ///
 /// an `ENTRY` or a `DEMAND` line for each posting in the order of their commits, then for each assortment a `CLASS`
 /// line for each of its classes, row by row, and its `DEGREE`, and the `TOTAL` once. Worths are in millionths of the
-/// price unit, prices in price units, the degree in ten-thousandths. `Memory` where a growth was refused.
+/// price unit, prices in price units, the degree in ten-thousandths. `Memory` if an allocation failed.
 pub fn report_text(alloc: Global, closed: &Closed) -> Result<Vec<u8>, TextFault>
     ensures { IfOk result (λ text. IsReport closed.now.history text.items) }
 {

@@ -14,7 +14,7 @@ use buck_record::Numbered;
 use itoa::Buffer;
 use std::io;
 
-/// Writes a text. `Write` where the writer fails or takes nothing: then a prefix of the text is written.
+/// Writes a text. `Write` if the writer fails or takes nothing: then a prefix of the text is written.
 pub fn write_text<W: io::Write>(writer: &mut W, text: &[u8]) -> Result<(), EngineFault>
     ensures { IsWritten (W.contents writer.old) (W.contents writer.new) text.now result }
 {
@@ -35,20 +35,21 @@ pub fn write_text<W: io::Write>(writer: &mut W, text: &[u8]) -> Result<(), Engin
     }
 }
 
-/// Writes the pieces of a text one after the other, or a prefix of the text where the writer fails or takes nothing.
+/// Writes the pieces of a text one after the other, or a prefix of the text if the writer fails or takes nothing.
 pub(crate) fn write_pieces<W: io::Write>(
     writer: &mut W,
     pieces: &[Vec<u8>],
 ) -> Result<(), EngineFault>
     ensures { IsWritten (W.contents writer.old) (W.contents writer.new) (joined pieces.now) result }
 {
+    // Joined first, they would take a sixteenth of the time and as much memory again.
     for piece in pieces {
         write_text(writer, piece.as_slice())?;
     }
     Ok(())
 }
 
-/// Writes a number in decimal, after a blank.
+/// Writes a number in decimal, after a space.
 #[tactic(auto, using(crate::proofs::WrittenLemmas::steps))]
 fn write_number<W: io::Write>(writer: &mut W, number: u64) -> Result<(), EngineFault>
     ensures { IsWritten (W.contents writer.old) (W.contents writer.new) (32 ∷ decimal number) result }
@@ -58,7 +59,7 @@ fn write_number<W: io::Write>(writer: &mut W, number: u64) -> Result<(), EngineF
     write_text(writer, buffer.format(number).as_bytes())
 }
 
-/// Writes numbers in decimal, each after a blank.
+/// Writes numbers in decimal, each after a space.
 fn write_numbers<W: io::Write>(writer: &mut W, numbers: &[u64]) -> Result<(), EngineFault>
     ensures { IsWritten (W.contents writer.old) (W.contents writer.new) (spelled numbers.now) result }
 {
@@ -82,7 +83,7 @@ fn write_line<W: io::Write>(
     write_text(writer, b"\n")
 }
 
-/// Writes the line of a fault that has a number: what kind it is of, the number of the file where there are several,
+/// Writes the line of a fault that has a number: what kind it is of, the number of the file if there are several,
 /// and the fault's number and fields. Memory that ran out has a line of its own.
 #[tactic(auto, using(crate::proofs::WrittenLemmas::unnumbered))]
 fn write_numbered<W: io::Write, F: Numbered>(
@@ -169,7 +170,7 @@ fn write_fault_line<W: io::Write>(writer: &mut W, fault: &EngineFault) -> Result
 }
 
 /// Writes the one line that the program says of a fault: its kind and number, then its fields in the order of their
-/// definition, each after a blank. It takes no memory. False where the writer failed, after a prefix of the line.
+/// definition, each after a space. It takes no memory. False if the writer failed, after a prefix of the line.
 pub fn write_fault<W: io::Write>(writer: &mut W, fault: &EngineFault) -> bool
     ensures { TellsWritten (W.contents writer.old) (W.contents writer.new) (fault_line fault.now) result }
 {

@@ -10,7 +10,7 @@ use crate::tie::fault::CheckFault;
 use buck_book::Posting;
 use buck_stem::Stem;
 
-/// The stem that a posting cut, where it is a harvester's.
+/// The stem that a posting cut, if it is a harvester's.
 fn own_stem(posting: &Posting, harvester: u32) -> Option<&Stem>
     ensures { option_map (λ s. s.now) result ≡ stem_of_own harvester posting.now }
 {
@@ -61,7 +61,7 @@ fn last_harvester(postings: &[Posting], least: u32) -> u32
     last
 }
 
-/// The stems of a harvester's file; none where it has no file.
+/// The stems of a harvester's file; none if it has no file.
 fn file_of(files: &[Vec<Stem>], harvester: u32) -> &[Stem]
     requires { 0 < harvester }
     ensures { result.now ≡ stems_of_file (stems_in_lists files.now) harvester }

@@ -10,7 +10,7 @@ use buck_stem::Stem;
 use std::alloc::Global;
 use std::io;
 
-/// The stems of all stem files, file by file: each is read, and refused where it must be, before the next. The first is
+/// The stems of all stem files, file by file: each is read, and refused if it must be, before the next. The first is
 /// file 2.
 pub(crate) fn read_files<R: io::Read>(
     alloc: Global,

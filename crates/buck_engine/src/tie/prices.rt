@@ -45,7 +45,7 @@ fn prices_at<'j>(journal: &'j Journal, walk: &Walk<'_>) -> &'j [u32]
     journal.sheets[walk.version() as usize].as_slice()
 }
 
-/// How the prices differ from a rule's, where a period begins at the place that a way has come to.
+/// How the prices differ from a rule's, if a period begins at the place that a way has come to.
 #[tactic(auto, using(crate::proofs::PriceLemmas::none_at_walk, crate::proofs::PriceLemmas::fault_at_walk))]
 fn fault_at<F: Fn(&Standing) -> u64>(
     alloc: Global,
@@ -103,6 +103,7 @@ fn first_fault<F: Fn(&Standing) -> u64>(
         let Some(posting) = walk.next() else {
             return Ok(None);
         };
+        // Any sheet of the instruction will do: the classes that a walk counts don't depend on the prices in force.
         walk = walk.pass(&base, posting)?;
     }
 }

@@ -1,7 +1,6 @@
 //! `run_check_with`: a check of a journal by its instruction, by stem files and by a rule.
 ghost use Rattle.std.specs.Prelude.{◌≡◌, ◌≢◌, ◌-◌, ◌<◌, ◌≤◌, length, map, drop, IfOk, IfErr, IfSome, IfNone, OnOk, Some};
 ghost use Rattle.buck_record.specs.Reading.{listed};
-ghost use Rattle.buck_apt.specs.Apt.{apt_of};
 ghost use Rattle.buck_book.specs.History.{HistoryParts, IsLawful};
 ghost use Rattle.buck_journal.specs.judging.Replay.{history_of, IsFirstFault};
 ghost use Rattle.buck_engine.specs.declared.fault.EngineFault.TheVariants.{Seats, Write};
@@ -14,9 +13,10 @@ ghost use Rattle.buck_engine.specs.inner.Tie.{IsTiedInputFault, IsUntiedFault, s
 ghost use Rattle.buck_book.specs.declared.posting.TheConstants.{MOST_POSTINGS};
 
 use crate::fault::EngineFault;
-use crate::run::both::{Both, read_postings, read_postings_in_parts, replay_both, unlawful};
+use crate::run::both::{Both, read_postings, unlawful};
 use crate::run::checking::lawful_text;
 use crate::run::reading::read_instruction_with;
+use crate::run::workers::Workers;
 use crate::text::writing::write_text;
 use crate::tie::comparing::compare_stems;
 use crate::tie::fault::CheckFault;
@@ -30,7 +30,6 @@ use buck_stem::Stem;
 use std::alloc::Global;
 use std::io;
 use std::sync::Arc;
-use std::thread::Threads;
 
 /// That there are at most 64 stem files.
 fn check_files(number: usize) -> Result<(), EngineFault>
@@ -43,7 +42,7 @@ fn check_files(number: usize) -> Result<(), EngineFault>
     Ok(())
 }
 
-/// How a journal isn't tied to the stem files, where there are any.
+/// How a journal isn't tied to the stem files, if there are any.
 fn stems_fault(journal: &Journal, files: &[Vec<Stem>]) -> Option<CheckFault>
     requires few { length files.now ≤ 64 }
     ensures none { IfNone result ((h : HistoryParts) → h.postings ≡ journal.now.entries
@@ -57,7 +56,7 @@ fn stems_fault(journal: &Journal, files: &[Vec<Stem>]) -> Option<CheckFault>
     compare_stems(journal.entries.as_slice(), files)
 }
 
-/// How a lawful journal isn't tied to the rule, where one is named.
+/// How a lawful journal isn't tied to the rule, if one is named.
 fn prices_fault(
     alloc: Global,
     rule: Option<NamedRule>,
@@ -77,7 +76,7 @@ fn prices_fault(
     }
 }
 
-/// That a lawful journal is tied to the stem files, where there are any, and to the rule, where one is named.
+/// That a lawful journal is tied to the stem files, if there are any, and to the rule, if one is named.
 fn check_ties(
     alloc: Global,
     rule: Option<NamedRule>,
@@ -102,22 +101,33 @@ fn check_ties(
     }
 }
 
+/// The rule and the numbers that a journal is checked by, beside its files.
+#[derive(Drop)]
+pub struct CrossCheck {
+    /// The rule that the prices are held against, if one is named.
+    pub rule: Option<NamedRule>,
+    /// The numbers that are put in the place of the instruction's own.
+    pub settings: Settings,
+}
+
 /// An instruction, a journal and stem files, as all were read.
 #[derive(Drop)]
-pub(crate) struct Tied {
+struct Tied {
     pub both: Both,
     pub files: Vec<Vec<Stem>>,
 }
 
 /// The instruction, the journal and the stems that the files have, with a run's numbers in the place of the
-/// instruction's own. Each file is read, and refused where it must be, before the next.
-pub(crate) fn read_tied<R: io::Read>(
+/// instruction's own. Each file is read, and refused if it must be, before the next.
+fn read_tied<T: Workers, R: io::Read>(
+    workers: &T,
     alloc: Global,
     apt: &mut R,
     journal: &mut R,
     stms: &mut [R],
     settings: &Settings,
 ) -> Result<Tied, EngineFault>
+    requires share { T.can_share }
     ensures read { IfOk result (λ tied. HaveRead (apt_with settings.now) (R.remaining apt.old) (R.remaining journal.old)
         (map R.remaining stms.old) tied.both.instruction.value tied.both.journal (stems_in_lists tied.files.items)) }
     ensures few { IfOk result (λ tied. length tied.both.journal.entries ≤ MOST_POSTINGS) }
@@ -130,35 +140,7 @@ pub(crate) fn read_tied<R: io::Read>(
 {
     check_files(stms.len())?;
     let instruction = Arc::new(alloc, read_instruction_with(alloc, apt, settings)?)?;
-    let journal = read_postings(alloc, journal)?;
-    let files = read_files(alloc, stms)?;
-    let both = Both {
-        instruction,
-        journal,
-    };
-    Ok(Tied { both, files })
-}
-
-/// [`read_tied`], with the postings read in several threads at once: in as many as are told, or as the machine has.
-pub(crate) fn read_tied_in_parts<T: Threads + Sync, R: io::Read>(
-    rt: &T,
-    alloc: Global,
-    threads: Option<u8>,
-    apt: &mut R,
-    journal: &mut R,
-    stms: &mut [R],
-    settings: &Settings,
-) -> Result<Tied, EngineFault>
-    ensures read { IfOk result (λ tied. HaveRead (apt_with settings.now) (R.remaining apt.old) (R.remaining journal.old)
-        (map R.remaining stms.old) tied.both.instruction.value tied.both.journal (stems_in_lists tied.files.items)) }
-    ensures few { IfOk result (λ tied. length tied.both.journal.entries ≤ MOST_POSTINGS) }
-    ensures files { IfOk result (λ tied. length tied.files.items ≤ 64) }
-    ensures refused { IfErr result
-        (IsTiedInputFault (R.remaining apt.old) (R.remaining journal.old) (map R.remaining stms.old)) }
-{
-    check_files(stms.len())?;
-    let instruction = Arc::new(alloc, read_instruction_with(alloc, apt, settings)?)?;
-    let journal = read_postings_in_parts(rt, alloc, threads, journal)?;
+    let journal = read_postings(workers, alloc, journal)?;
     let files = read_files(alloc, stms)?;
     let both = Both {
         instruction,
@@ -168,7 +150,7 @@ pub(crate) fn read_tied_in_parts<T: Threads + Sync, R: io::Read>(
 }
 
 /// The line of a journal that is tied to stem files and a rule, by what came of its replay.
-pub(crate) fn text_of_ties(
+fn text_of_ties(
     alloc: Global,
     rule: Option<NamedRule>,
     tied: &Tied,
@@ -199,57 +181,64 @@ pub(crate) fn text_of_ties(
 
 /// The line of the journal of a file that is lawful for the instruction of another, and tied to stem files and a rule.
 #[tactic(auto, using(crate::proofs::TieAnswers::tied))]
-fn text_of_own_files<R: io::Read>(
+fn text_of_files<T: Workers, R: io::Read>(
+    workers: &T,
     alloc: Global,
+    by: &CrossCheck,
     apt: &mut R,
     journal: &mut R,
     stms: &mut [R],
-    rule: Option<NamedRule>,
 ) -> Result<Vec<u8>, EngineFault>
-    ensures answer { AnswersCheckWith apt_of rule (R.remaining apt.old) (R.remaining journal.old)
-        (map R.remaining stms.old) (listed result) }
+    requires share { T.can_share }
+    ensures answer { AnswersCheckWith (apt_with by.now.settings) by.now.rule (R.remaining apt.old)
+        (R.remaining journal.old) (map R.remaining stms.old) (listed result) }
     ensures journal_order { IfErr result (IfStopped (λ last. last ≡ 0 → journal.new ≡ journal.old)) }
     ensures stms_order { IfErr result (IfStopped (λ last. drop (last - 1) stms.new ≡ drop (last - 1) stms.old)) }
     ensures unread { IfErr result (λ fault. fault ≡ Seats → apt.new ≡ apt.old) }
 {
-    let tied = read_tied(alloc, apt, journal, stms, &Settings::own())?;
-    text_of_ties(alloc, rule, &tied, replay_both(alloc, &tied.both))
+    let tied = read_tied(workers, alloc, apt, journal, stms, &by.settings)?;
+    let both = &tied.both;
+    let replayed = workers.replay(alloc, &both.instruction, &both.journal);
+    text_of_ties(alloc, by.rule, &tied, replayed)
 }
 
-/// Reads an instruction file, a journal and stem files, and writes `LAWFUL` with the number of postings where the
-/// journal is lawful for the instruction, as [`run_check`](crate::run_check) says; where, if there are stem files, the
-/// stems of harvester k's cuts are exactly those of the k-th, in their order, and who has no file cut nothing; and
-/// where, if a rule is named, each price of each sheet is what the rule gives for its class, by the targets in force
-/// and by what was cut before.
+/// Reads an instruction file, a journal and stem files, and writes `LAWFUL` with the number of postings if the journal
+/// is lawful for the instruction, as [`run_check`](crate::run_check) says, and passes two checks more. If there are
+/// stem files, the stems of harvester k's cuts are exactly those of the k-th, in their order, and a harvester without a
+/// file cut nothing. If a rule is named, each price of each sheet is what the rule gives for its class, by the targets
+/// in force and by what was cut before. The instruction is read, and refused, by its own numbers; then the given ones
+/// take their place.
 ///
 /// The instruction file is file 0, the journal file 1, and the k-th stem file is file k + 1; each is read, and refused
-/// where it must be, before the next. `Seats` comes where there are more than 64 stem files, before anything is read,
-/// `Read` where a reader fails or a file is longer than 67,108,864 bytes, `Apt`, `Journal` and `Stm` where the bytes of
+/// if it must be, before the next. `Seats` comes if there are more than 64 stem files, before anything is read,
+/// `Read` if a reader fails or a file is longer than 67,108,864 bytes, `Apt`, `Journal` and `Stm` if the bytes of
 /// a file are refused, `Replay` with the first fault of a journal that isn't lawful, `Check` with how a lawful one
-/// first differs, from the stem files before the rule, `Write` where the writer fails, which leaves a prefix of the
-/// text, and `Memory` where a growth was refused.
-pub fn run_check_with<R: io::Read, W: io::Write>(
+/// first differs, from the stem files before the rule, `Write` if the writer fails, which leaves a prefix of the text,
+/// and `Memory` if an allocation failed.
+pub fn run_check_with<T: Workers, R: io::Read, W: io::Write>(
+    workers: &T,
     alloc: Global,
+    by: &CrossCheck,
     apt: &mut R,
     journal: &mut R,
     stms: &mut [R],
-    rule: Option<NamedRule>,
     writer: &mut W,
 ) -> Result<(), EngineFault>
+    requires share { T.can_share }
     // The line of a journal is written that is lawful for the instruction and tied to the stem files and the rule; a
     // fault is that of the first file that has one, or of the journal, and nothing is written; a write fault leaves a
-    // prefix of the line. Where there are more than 64 stem files, that is the fault.
+    // prefix of the line. If there are more than 64 stem files, that is the fault.
     ensures run { WritesText
-        (AnswersCheckWith apt_of rule (R.remaining apt.old) (R.remaining journal.old) (map R.remaining stms.old))
-        (W.contents writer.old) (W.contents writer.new) result }
-    // Where a file has a fault, nothing was read of those after it.
+        (AnswersCheckWith (apt_with by.now.settings) by.now.rule (R.remaining apt.old) (R.remaining journal.old)
+        (map R.remaining stms.old)) (W.contents writer.old) (W.contents writer.new) result }
+    // If a file has a fault, nothing was read of those after it.
     ensures journal_order { IfErr result (IfStopped (λ last. last ≡ 0 → journal.new ≡ journal.old)) }
     ensures stms_order { IfErr result (IfStopped (λ last. drop (last - 1) stms.new ≡ drop (last - 1) stms.old)) }
-    // Where there are more than 64 stem files, nothing was read of the instruction either.
+    // If there are more than 64 stem files, nothing was read of the instruction either.
     ensures unread { IfErr result (λ fault. fault ≡ Seats → apt.new ≡ apt.old) }
     // Only a failed write touches the writer.
     ensures untouched { IfErr result (λ fault. fault ≢ Write → writer.new ≡ writer.old) }
 {
-    let text = text_of_own_files(alloc, apt, journal, stms, rule)?;
+    let text = text_of_files(workers, alloc, by, apt, journal, stms)?;
     write_text(writer, text.as_slice())
 }

@@ -14,7 +14,7 @@ use Rattle.buck_figures.specs.declared.course.Course.{Course}
 abbrev pub ArePassable : InstructionParts → List Posting → Type 0
 ArePassable i ps = (k : ℕ) (x : Posting) → slice_get ps k ≡ Some x → IsCuttable i x × IsCountable i x
 
--- a way that has come to a place, where the postings before it are these unsteered
+-- a way that has come to a place, if the postings before it are these unsteered
 pub record IsCourse (i : InstructionParts) (js : List JournalParts) (at : ℕ) (us : List Posting) (c : Course)
     : Type 0 where
   pub walk : c.walk ≡ walk_of i (entries_in (slice_get js c.journal)) c.walk.at

@@ -3,7 +3,7 @@ use Rattle.std.specs.Prelude.{◌≡◌, ℕ, List, slice_index, Option, Some, N
 use Rattle.buck_figures.specs.Greatest.{IsFirstGreatest}
 use Rattle.buck_figures.specs.declared.greatest.Greatest.{Greatest}
 
--- how great the number at a place is; 0 where there is none
+-- how great the number at a place is; 0 if there is none
 abbrev pub IsSize : List ℕ → Option ℕ → ℕ → Type 0
 IsSize ns None size = size ≡ 0
 IsSize ns (Some at) size = size ≡ slice_index ns at

@@ -19,7 +19,7 @@ pub record AreAllDegrees (i : InstructionParts) (targets counts : List ℕ) (deg
   pub one_each : length degrees ≡ length i.assortments
   pub each : (a : ℕ) (d : Degrees) → slice_get degrees a ≡ Some d → AreDegreesBy i targets counts a d
 
--- the point at which a way stands, where so many demands came before the last point
+-- the point at which a way stands, after so many demands before the last point
 pub record IsPointOf (i : InstructionParts) (js : List JournalParts) (c : Course) (demands : ℕ) (p : Point)
     : Type 0 where
   pub after : p.after ≡ c.before + c.walk.at

@@ -6,7 +6,7 @@ use Rattle.buck_board.specs.declared.put_up.PutUp.{PutUp}
 use Rattle.buck_board.specs.Board.{IsPutUpOn, sheet_put_up}
 use Rattle.buck_book.specs.History.{HistoryParts, sheets_with}
 
--- a next sheet, where there is one, was put up on a board
+-- a next sheet, if there is one, was put up on a board
 abbrev pub IsShown : Board → Option SheetParts → Option PutUp → Type 0
 IsShown b None shown = Unit {0}
 IsShown b (Some sheet) shown = IsSomeAnd shown (λ p. IsPutUpOn b p × (sheet_put_up p ≡ sheet))

@@ -21,12 +21,12 @@ pub record LeadsWorth (text : List ℕ) (worth : ℕ) (left : List ℕ) : Type 0
   pub read : number_of 18446744073709551615 rest ≡ Ok worth
   pub leads : Leads text (item_in (slot 981 6) rest) left
 
--- the first item, where there is one, begins a posting
+-- the first item, if there is one, begins a posting
 abbrev pub begins : List ItemParts → Bool
 begins [] = true
 begins (item ∷ more) = is_first item
 
--- at the end of a file the items are read as these postings, where as many are let in
+-- at the end of a file the items are read as these postings, if as many are let in
 pub record ArePostings (items : List ItemParts) (ps : List Posting) : Type 0 where
   pub begin : begins items ≡ true
   pub read : (k before : ℕ) → before + length ps ≤ MOST_POSTINGS → postings_from k before items ≡ Ok ps

@@ -20,7 +20,7 @@ along w sheets = record { instruction = w.instruction; sheets = sheets; postings
 abbrev pub sheet_then : HistoryParts → ℕ → SheetParts
 sheet_then h k = sheet_at h.instruction h.sheets (version_at h k)
 
--- the posting at a place may follow there, and where a period begins there its sheet is right
+-- the posting at a place may follow there, and if a period begins there its sheet is right
 pub record IsPassed (h : HistoryParts) (at : ℕ) (x : Posting) : Type 0 where
   pub sheet : Begins h at → IsSheetRight h at
   pub posting : IsRightUnder (sheet_then h at) (take at h.postings) x

@@ -93,7 +93,7 @@ IsPostingFault s before x k fault =
     IsCallFault s.instruction before x k fault
     ⊎ (IsNumbered before x × IsOfVersion s.instruction before x × IsContentFault s x k fault)
 
--- what is wrong at the posting at place k: where a period begins there its sheet, else the posting
+-- what is wrong at the posting at place k: if a period begins there its sheet, else the posting
 abbrev pub IsFaultAt : HistoryParts → ℕ → Posting → ReplayFault → Type 0
 IsFaultAt h k x fault =
     (Begins h k × IsSheetFault h k fault)
@@ -107,7 +107,7 @@ IsNumberFault sheets last (Sheet version) =
     ⊎ ((last + 1 < length sheets) × (version ≡ last + 1))
 IsNumberFault sheets last other = ⊥
 
--- what is wrong after the last posting: the number of sheets, else, where a period begins there, the last sheet
+-- what is wrong after the last posting: the number of sheets, else, if a period begins there, the last sheet
 abbrev pub IsFaultAtEnd : HistoryParts → ℕ → ReplayFault → Type 0
 IsFaultAtEnd h k fault =
     IsNumberFault h.sheets (version_at h k) fault

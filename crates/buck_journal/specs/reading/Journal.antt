@@ -9,8 +9,8 @@
 --   981 1   harvester, number, version         3                    1 to 64, 1 to 1000000, 0 to 1000000
 --   981 2   stem number, species               2                    any, 1 to 255
 --   981 3   diameters in mm                    1 to 401             0 to 1500
---   981 4   zones: a start in mm and a         even, 0 to 200       starts 0 to 40000, strictly rising; grades 1 to 8
---           grade by turns
+--   981 4   zones: pairs of a start in mm      even, 0 to 200       starts 0 to 40000, strictly rising; grades 1 to 8
+--           and a grade
 --   981 5   logs: start and length in mm,      a multiple of 3,     0 to 40000, 0 to 30000, 0 to 15
 --           assortment                         0 to 240
 --   981 6   worth                              1                    below 2^64

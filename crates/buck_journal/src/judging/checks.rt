@@ -37,7 +37,7 @@ fn check_prices(case: &Case<'_, '_>, walk: &Walk<'_>) -> Result<(), ReplayFault>
     }
 }
 
-/// The sheet in force at a place: a right one, where a period begins there, and else the one that is kept.
+/// The sheet in force at a place: a right one, if a period begins there, and else the one that is kept.
 pub(crate) fn sheet_in_force(
     alloc: Global,
     case: &Case<'_, '_>,

@@ -36,7 +36,7 @@ pub enum ReplayFault {
     /// Some admissible list of logs is worth more than those of the cut at this index, from 0.
     #[error("the cutting of posting {at} is outvalued")]
     Outvalued { at: usize },
-    /// A growth was refused.
+    /// An allocation failed.
     #[error("out of memory")]
     Memory,
     /// The targets of the demand at this index, from 0, aren't valid.

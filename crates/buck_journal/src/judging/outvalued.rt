@@ -53,6 +53,7 @@ fn is_doubtful(
     ensures doubtful { IfOk result (IsDoubtful case.now posting.now) }
 {
     if !turn_to(alloc, case, planner, version_of(posting))? {
+        // A search can't know what is in order. The walk stops here or before, and its fault is the one that counts.
         return Ok(true);
     }
     let Posting::Cut(entry) = posting else {

@@ -52,11 +52,11 @@ fn check_next(
 pub struct Stop<'w> {
     /// The place, with all that the postings before it add up to.
     pub walk: Walk<'w>,
-    /// What is wrong there; Ok where that is the end, and right.
+    /// The fault there; Ok if that is the end, and right.
     pub outcome: Result<(), ReplayFault>,
 }
 
-/// The place where a walk is stopped by a fault; none where memory ran out.
+/// The place where a walk is stopped by a fault; none if memory ran out.
 fn stopped(walk: Walk<'_>, fault: ReplayFault) -> Result<Stop<'_>, buck_record::Memory>
     ensures { IfOk result (λ stop. (stop.walk ≡ walk.entry) × (stop.outcome ≡ Err fault) × (fault ≢ Memory)) }
 {
@@ -69,13 +69,16 @@ fn stopped(walk: Walk<'_>, fault: ReplayFault) -> Result<Stop<'_>, buck_record::
     }
 }
 
-/// Goes through a journal for all that hangs on its order, and leaves out what takes time: whether a cut is outvalued.
+/// Goes through a journal for all that depends on its order, and leaves out what takes time: whether a cut is
+/// outvalued.
 fn walk_in_order<'w>(alloc: Global, case: &Case<'w, '_>) -> Result<Stop<'w>, buck_record::Memory>
     requires { length case.now.postings ≤ MOST_POSTINGS }
     ensures walk { IfOk result (λ stop.
         stop.walk ≡ walk_of case.now.instruction case.now.postings stop.walk.at) }
     ensures ordered { IfOk result (λ stop. IsOrdered case.now stop.walk.at stop.outcome) }
 {
+    // The search for outvalued cuts takes most of the time and needs no other posting, so threads can share it. They
+    // couldn't share one pass for everything.
     let mut walk = Walk::opening(alloc, case.instruction(), case.postings())?;
     let mut kept = None;
     loop {
@@ -138,7 +141,7 @@ pub fn replay_in_order<'w>(
     walk_in_order(alloc, &Case::of(instruction, journal, made.as_slice()))
 }
 
-/// The place after the last posting of a journal of at most 1,000,000, where it is lawful for an instruction: what all
+/// The place after the last posting of a journal of at most 1,000,000, if it is lawful for an instruction: what all
 /// of it adds up to. Refused as [`replay`] refuses.
 pub fn replay_to_end<'w>(
     alloc: Global,
@@ -164,7 +167,7 @@ pub fn replay_to_end<'w>(
 /// Whether a journal of at most 1,000,000 postings is lawful for an instruction: each cutting is one that none
 /// outvalues under the sheet in force there, and the prices move only by the price relation, with the targets in force
 /// and with what was cut before. Any journal may be asked of. Refused by the first fault that stands in it, as
-/// [`ReplayFault`] says, and as `Memory` where a growth was refused.
+/// [`ReplayFault`] says, and as `Memory` if an allocation failed.
 pub fn replay(
     alloc: Global,
     instruction: &Arc<Instruction>,
@@ -255,7 +258,7 @@ fn walk_beside_search<T: Threads + Sync>(
             )
         },
     );
-    // An earlier find decides, even where a later part was refused memory.
+    // An earlier find decides, even if a later part was refused memory.
     let (ordered, first) = first?;
     if first.is_some() {
         return Ok((ordered, first));
@@ -264,9 +267,9 @@ fn walk_beside_search<T: Threads + Sync>(
 }
 
 /// [`replay`] in at most so many threads at once. One goes through the postings in order, while the others look which
-/// cut is outvalued, each in a run of neighbours. The answer is that of [`replay`], whatever the number, or `Memory`
-/// where a growth was refused and no part before it has found one. A short journal is left to one thread, and so is one
-/// whose versions go back: a search beside the walk could turn its planner to another sheet at each of the postings.
+/// cut is outvalued, each in a run of neighbours. The answer is that of [`replay`], whatever the number, or `Memory` if
+/// an allocation failed and no part before it has found one. A short journal is left to one thread, and so is one whose
+/// versions go back: a search beside the walk could turn its planner to another sheet at each of the postings.
 pub fn replay_in_parts<T: Threads + Sync>(
     rt: &T,
     alloc: Global,
@@ -284,7 +287,8 @@ pub fn replay_in_parts<T: Threads + Sync>(
     if count <= size_of_part(count, threads) {
         return replay(alloc, instruction, journal);
     }
-    // Versions don't go back in a lawful journal.
+    // Versions don't go back in a lawful journal. If they do, a search takes ten seconds for 200,000 postings under
+    // two sheets in alternation.
     if !journal.entries.as_slice().is_sorted_by_key(version_of) {
         return replay(alloc, instruction, journal);
     }

@@ -58,6 +58,7 @@ pub(crate) fn first_sheets(
     ensures { IfOk result (λ made.
         AreMade instruction.now.value (map (λ v. v.items) sheets.now) (map (λ a. a.value) made.items)) }
 {
+    // Later sheets are made when they are met: all of them could take more memory than the journal.
     let mut made = Vec::new(alloc);
     for version in 0..KEPT {
         let Some(sheet) = new_sheet(alloc, instruction, sheets, version)? else {

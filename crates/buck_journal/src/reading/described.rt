@@ -40,7 +40,7 @@ pub static ITEMS: [Described; 9] = [
             within!(CUT, 1, MOST_POSTINGS),
             within!(CUT, 0, MOST_POSTINGS)
         ],
-        "beginning of a cut",
+        "cut",
         Opener,
         Slots
     ),
@@ -61,7 +61,7 @@ pub static ITEMS: [Described; 9] = [
             within!(CUT_ZONES, STARTS.low, STARTS.high),
             within!(CUT_ZONES, GRADES.low, GRADES.high)
         ],
-        "zones",
+        "grade zones",
         Member,
         Pairs(MOST_ZONES),
         Rising(2)
@@ -83,7 +83,7 @@ pub static ITEMS: [Described; 9] = [
             within!(DEMAND, 1, MOST_POSTINGS),
             within!(DEMAND, 0, MOST_POSTINGS)
         ],
-        "beginning of a demand",
+        "demand",
         Opener,
         Slots
     ),

@@ -7,9 +7,9 @@ use buck_record::{FaultNumbers, Numbered};
 use std::alloc::{AllocError, AllocFailed};
 use thiserror::Error;
 
-/// What is wrong with a journal file: the first refusal that applies to its bytes. Items of the file count from 1.
-/// `Head` and `NotJournal` come first; then the least item that has `Shape`, `Digits`, `Count` or `Range`, and on it
-/// the first of these.
+/// Why a journal file is refused: the first refusal that applies to its bytes. Items of the file count from 1. `Head`
+/// and `NotJournal` come first; then the least item that has `Shape`, `Digits`, `Count` or `Range`, and on it the first
+/// of these.
 #[derive(Clone, Copy, Debug, PartialEq, Eq, Error)]
 pub enum JournalFault {
     /// The least item, from 1, without a number and a kind.
@@ -31,7 +31,7 @@ pub enum JournalFault {
     /// The item, from 1, has a number out of range, or zones against their order.
     #[error("a number of item {item} is out of range or of order")]
     Range { item: usize },
-    /// A growth was refused.
+    /// An allocation failed.
     #[error("out of memory")]
     Memory,
 }

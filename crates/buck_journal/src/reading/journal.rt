@@ -66,7 +66,7 @@ fn read_by_items(alloc: Global, bytes: &[u8]) -> Result<Journal, JournalFault>
     journal_in(alloc, items.as_slice())
 }
 
-/// The journal of a file's bytes, where all of it is right, with any number of postings.
+/// The journal of a file's bytes, if all of it is right, with any number of postings.
 fn read_plain(alloc: Global, bytes: &[u8]) -> Result<Journal, JournalFault>
     ensures { IfOk result (λ journal.
         length journal.entries ≤ MOST_POSTINGS → journal_of bytes.now ≡ Ok journal) }
@@ -76,7 +76,7 @@ fn read_plain(alloc: Global, bytes: &[u8]) -> Result<Journal, JournalFault>
     Ok(Journal { sheets, entries })
 }
 
-/// What was read in one pass, or what is read by the list of the items, where that wasn't right.
+/// What was read in one pass, or what is read by the list of the items, if that wasn't right.
 pub(crate) fn or_by_items(
     alloc: Global,
     bytes: &[u8],
@@ -102,8 +102,8 @@ pub(crate) fn or_by_items(
 
 /// Reads a journal, whose bytes are items between tildes (see docs/FORMATS.md).
 ///
-/// The answer is what was written, or the first refusal that applies, as [`JournalFault`] says; and `Memory` where a
-/// growth was refused. A journal needs no sheet and no posting, and has at most 1,000,000 postings. Its items stand in
+/// The answer is what was written, or the first refusal that applies, as [`JournalFault`] says; and `Memory` if an
+/// allocation failed. A journal needs no sheet and no posting, and has at most 1,000,000 postings. Its items stand in
 /// one sequence, and none is skipped.
 pub fn read_journal(alloc: Global, bytes: &[u8]) -> Result<Journal, JournalFault>
     ensures value { Gives Memory result (journal_of bytes.now) }

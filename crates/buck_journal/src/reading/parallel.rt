@@ -16,8 +16,8 @@ use std::alloc::{AllocError, Global};
 use std::thread;
 use std::thread::Threads;
 
-/// The postings of a text, up to its end, where the text is cut in two again and again, until there is a thread for
-/// each part.
+/// The postings of a text, up to its end: the text is cut in two again and again, until there is a thread for each
+/// part.
 #[tactic(auto, using(crate::proofs::OnePass::postings_join))]
 fn postings_in_parts<T: Threads + Sync>(
     rt: &T,
@@ -41,13 +41,15 @@ fn postings_in_parts<T: Threads + Sync>(
             ensures { IfOk result (λ postings. HasPostings back.entry.now postings.items) }
         { postings_in_parts(rt, alloc, back, threads - threads / 2) },
     );
+    // If a part isn't in the plain order, the whole file is read by its items: which of its refusals comes first
+    // depends on all parts.
     let mut postings = first?;
     let mut more = second?;
     postings.append(&mut more)?;
     Ok(postings)
 }
 
-/// The journal of a file's bytes, where all of it is right, with the postings in at most so many threads at once.
+/// The journal of a file's bytes, if all of it is right, with the postings in at most so many threads at once.
 fn read_plain_in_parts<T: Threads + Sync>(
     rt: &T,
     alloc: Global,
@@ -62,9 +64,9 @@ fn read_plain_in_parts<T: Threads + Sync>(
     Ok(Journal { sheets, entries })
 }
 
-/// [`read_journal`](crate::read_journal), where the postings of a journal that isn't short are read in at
-/// most so many threads at once: each takes a part that begins with a cut. The answer is that of
-/// [`read_journal`](crate::read_journal), whatever the number, or `Memory` where a growth was refused.
+/// [`read_journal`](crate::read_journal), with the postings of a journal that isn't short read in at most so many
+/// threads at once: each takes a part that begins with a cut. The answer is that of
+/// [`read_journal`](crate::read_journal), whatever the number, or `Memory` if an allocation failed.
 pub fn read_journal_in_parts<T: Threads + Sync>(
     rt: &T,
     alloc: Global,

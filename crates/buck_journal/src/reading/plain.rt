@@ -1,31 +1,28 @@
 //! Journals in one pass, with no list of their items: the kind of file, the sheets, and then the items of each posting.
-//! The numbers of an item, and the diameters of a stem, are read into rooms that are kept from item to item.
+//! The numbers of an item are read into a room that is kept from item to item.
 //!
-//! Where a text isn't read, the fault says nothing of it but that memory was wanting, if it is that.
-ghost use Rattle.std.specs.Prelude.{◌≡◌, ◌≤◌, [], ◌∷◌, IfOk, IfSome, Ok, length, map};
-ghost use Rattle.buck_record.specs.checking.Rules.{slot};
-ghost use Rattle.buck_journal.specs.reading.Journal.{says, samples_form, journal_of};
-ghost use Rattle.buck_journal.specs.inner.Limits.{AreSamples};
+//! If a text isn't read, the fault says only whether an allocation failed.
+ghost use Rattle.std.specs.Prelude.{[], ◌∷◌, IfOk, map};
+ghost use Rattle.buck_journal.specs.reading.Journal.{journal_of};
 ghost use Rattle.buck_journal.specs.inner.Plain.{LeadsNumbers, LeadsWorth, LeadsPostings, HasPostings, LeadsSheets, BeginsJournal};
 
 use crate::reading::fault::JournalFault;
 use crate::reading::items::{call_in, check_list, head_in};
 use crate::reading::journal::Journal;
-use crate::reading::parts::{logs_in, zones_in};
+use crate::reading::parts::{logs_in, samples_in, zones_in};
 use crate::reading::postings::{cut_of, demand_of};
 use crate::reading::slots::{
     CUT, CUT_SAMPLES, CUT_ZONES, DEMAND, DEMAND_TARGETS, HEAD, LOGS, SHEET, WORTH,
 };
 use buck_apt::slots::TARGETS;
 use buck_book::{MOST_POSTINGS, Posting};
-use buck_record::rules::{FILE, one_to};
-use buck_record::{Slot, append_numbers, is_done, next_in, numbers_into, wide};
+use buck_record::rules::FILE;
+use buck_record::{Slot, is_done, next_in, numbers_into, wide};
 use buck_stem::Stem;
-use buck_stem::slots::{MOST_SAMPLES, SAMPLES};
 use buck_value::HIGHEST_PRICE;
 use std::alloc::{AllocError, Global};
 
-/// Reads the numbers of the item that a text begins with, where that stands in this slot, into `room`; and what is left
+/// Reads the numbers of the item that a text begins with, if that stands in this slot, into `room`; and what is left
 /// after it.
 fn next_numbers<'a>(
     room: &mut Vec<u32>,
@@ -38,26 +35,6 @@ fn next_numbers<'a>(
         return Err(JournalFault::NotJournal);
     };
     if !numbers_into(rest, room)? {
-        return Err(JournalFault::NotJournal);
-    }
-    Ok(left)
-}
-
-/// Reads the diameters of a stem into `samples`; and what is left after them.
-fn next_samples<'a>(samples: &mut Vec<u16>, text: &'a [u8]) -> Result<&'a [u8], JournalFault>
-    ensures leads { IfOk result (λ left. LeadsNumbers (slot 981 3) text.now samples.new.items left.now) }
-    ensures right { IfOk result (λ _. says samples_form 1 samples.new.items ≡ Ok samples.new.items) }
-    ensures valid { IfOk result (λ _. AreSamples samples.new.items) }
-{
-    let Some((rest, left)) = next_in(CUT_SAMPLES, text) else {
-        return Err(JournalFault::NotJournal);
-    };
-    samples.clear();
-    samples.reserve(rest.len() / 2 + 1)?;
-    if !append_numbers(SAMPLES.high as u16, rest, samples) {
-        return Err(JournalFault::NotJournal);
-    }
-    if !one_to(MOST_SAMPLES, samples.len()) {
         return Err(JournalFault::NotJournal);
     }
     Ok(left)
@@ -81,7 +58,6 @@ fn next_worth(text: &[u8]) -> Result<(u64, &[u8]), JournalFault>
 fn next_cut<'a>(
     alloc: Global,
     room: &mut Vec<u32>,
-    samples: &mut Vec<u16>,
     text: &'a [u8],
 ) -> Result<(Posting, &'a [u8]), JournalFault>
     ensures { IfOk result (λ w. LeadsPostings text.now (w.0 ∷ []) w.1.now) }
@@ -90,13 +66,14 @@ fn next_cut<'a>(
     let call = call_in(1, room.as_slice())?;
     let named = next_numbers(room, HEAD, called)?;
     let (number, species) = head_in(1, room.as_slice())?;
-    let sampled = next_samples(samples, named)?;
+    let sampled = next_numbers(room, CUT_SAMPLES, named)?;
+    let samples = samples_in(alloc, 1, room.as_slice())?;
     let zoned = next_numbers(room, CUT_ZONES, sampled)?;
     let zones = zones_in(alloc, 1, room.as_slice())?;
     let logged = next_numbers(room, LOGS, zoned)?;
     let logs = logs_in(alloc, 1, room.as_slice())?;
     let (worth, left) = next_worth(logged)?;
-    let stem = Stem::of_parts(alloc, number, species, samples.as_slice(), zones)?;
+    let stem = Stem::of_parts(alloc, number, species, samples, zones)?;
     let cut = cut_of(alloc, call, stem, logs, worth)?;
     Ok((cut, left))
 }
@@ -123,12 +100,12 @@ fn next_demand<'a>(
 fn next_posting<'a>(
     alloc: Global,
     room: &mut Vec<u32>,
-    samples: &mut Vec<u16>,
     text: &'a [u8],
 ) -> Result<(Posting, &'a [u8]), JournalFault>
     ensures { IfOk result (λ w. LeadsPostings text.now (w.0 ∷ []) w.1.now) }
 {
-    match next_cut(alloc, room, samples, text) {
+    // Nearly all postings are cuts, and a demand fails as one at its first item, so the try costs little.
+    match next_cut(alloc, room, text) {
         Ok(cut) => Ok(cut),
         Err(JournalFault::Memory) => Err(JournalFault::Memory),
         Err(_) => next_demand(alloc, room, text),
@@ -141,15 +118,14 @@ pub(crate) fn postings_of(alloc: Global, text: &[u8]) -> Result<Vec<Posting>, Jo
     ensures { IfOk result (λ postings. HasPostings text.now postings.items) }
 {
     let mut room = Vec::new(alloc);
-    let mut samples = Vec::new(alloc);
     let mut postings = Vec::new(alloc);
     let mut rest = text;
-    // One turn at least: where no posting is left, the text has ended.
+    // One turn at least: if no posting is left, the text has ended.
     for _ in 0..text.len().max(1) {
         if is_done(rest) {
             return Ok(postings);
         }
-        let (posting, left) = next_posting(alloc, &mut room, &mut samples, rest)?;
+        let (posting, left) = next_posting(alloc, &mut room, rest)?;
         postings.push(posting)?;
         rest = left;
     }
@@ -185,6 +161,8 @@ fn sheets_of<'a>(alloc: Global, text: &'a [u8]) -> Result<(Vec<Vec<u32>>, &'a [u
                 rest = left;
             }
             Err(JournalFault::Memory) => return Err(JournalFault::Memory),
+            // An item that isn't a sheet is left to the reader of postings, which refuses it if it isn't one of theirs
+            // either.
             Err(_) => return Ok((sheets, rest)),
         }
     }

@@ -114,7 +114,7 @@ fn stem_at<'a>(alloc: Global, items: &'a [Piece<'a>], k: usize) -> Result<Stem, 
     let (number, species) = head_at(alloc, items, k)?;
     let samples = samples_at(alloc, items, k)?;
     let zones = zones_at(alloc, items, k)?;
-    let stem = Stem::of_parts(alloc, number, species, samples.as_slice(), zones)?;
+    let stem = Stem::of_parts(alloc, number, species, samples, zones)?;
     Ok(stem)
 }
 

@@ -13,10 +13,10 @@ pub(crate) const HEAD: Slot = slot!(981, 2);
 /// The diameters.
 pub(crate) const CUT_SAMPLES: Slot = slot!(981, 3);
 
-/// The zones, a start and a grade by turns.
+/// The zones: pairs of a start in mm and a grade.
 pub(crate) const CUT_ZONES: Slot = slot!(981, 4);
 
-/// The logs: start, length and assortment by turns.
+/// The logs: start, length and assortment of each.
 pub(crate) const LOGS: Slot = slot!(981, 5);
 
 /// The worth of a cutting.

@@ -7,12 +7,12 @@ use Rattle.buck_record.specs.Item.{ItemParts}
 use Rattle.buck_record.specs.bytes.White.{is_filled, trim, first_word, after_word, words}
 use Rattle.buck_record.specs.Reading.{each_from}
 
--- what f gives of a value, where there is one
+-- what f gives of a value, if there is one
 infixl 10 ◌>>=◌
 abbrev ◌>>=◌ : {A B : Type 0} → Option A → (A → Option B) → Option B
 o >>= f = option_and_then f o
 
--- the number that a word of digits stands for, where it is at most `most`
+-- the number that a word of digits stands for, if it is at most `most`
 unfoldable pub number_at_most : ℕ → List ℕ → Option ℕ
 number_at_most most word =
     if is_filled word && (list_all is_ascii_digit word && nat_le (digits_value 10 word) most)
@@ -46,7 +46,7 @@ items_of bytes = each_from item_of 1 (pieces bytes)
 unfoldable pub numbers_of : List ℕ → Result (List ℕ) ℕ
 numbers_of text = each_from (number_at_most 4294967295) 1 (words text)
 
--- a first word's number, where there is one and no word follows: else the place of the word that is wrong
+-- a first word's number, if there is one and no word follows: else the place of the word that is wrong
 abbrev only_number : Option ℕ → List (List ℕ) → Result ℕ ℕ
 only_number None more = Err 1
 only_number (Some n) [] = Ok n

@@ -10,12 +10,12 @@ abbrev pub ◌>>=◌ : {A B E : Type 0} → Result A E → (A → Result B E) �
 (Ok x) >>= f = f x
 (Err e) >>= f = Err e
 
--- the fault, where the test fails
+-- the fault, if the test fails
 abbrev pub check : {E : Type 0} → Bool → E → Result (Unit {0}) E
 check true fault = Ok tt
 check false fault = Err fault
 
--- the fault of a slot, where there is one
+-- the fault of a slot, if there is one
 abbrev pub none_of : {E : Type 0} → Option Slot → (ℕ → ℕ → E) → Result (Unit {0}) E
 none_of None fault = Ok tt
 none_of (Some slot) fault = Err (fault slot.number slot.kind)

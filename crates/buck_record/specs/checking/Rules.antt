@@ -25,7 +25,7 @@ abbrev pub has_no_strays : Slot → List Slot → List ItemParts → Bool
 has_no_strays first members items =
     list_all (λ s. count_in s (before_first (is_at first) items) == 0) members
 
--- the numbers of an item, none where it is absent; or the fault of the first word that isn't a number
+-- the numbers of an item, none if it is absent; or the fault of the first word that isn't a number
 unfoldable pub numbers_in : {E : Type 0} → (ℕ → ℕ → ℕ → E) → Slot → List ItemParts → Result (List ℕ) E
 numbers_in fault s items = with_fault (of_slot fault s) (numbers_of (rest_in s items))
 
@@ -44,11 +44,11 @@ all_within low high ns = list_all (within low high) ns
 abbrev pub one_to : ℕ → ℕ → Bool
 one_to most n = within 1 most n
 
--- the fault of a slot, where one of its numbers is out of its range
+-- the fault of a slot, if one of its numbers is out of its range
 abbrev pub all_in_range : {E : Type 0} → (ℕ → ℕ → E) → Slot → List ℕ → Result (Unit {0}) E
 all_in_range fault s ns = check (all_within s.low s.high ns) (of_slot fault s)
 
--- the fault of a slot, where it has no number or more than so many
+-- the fault of a slot, if it has no number or more than so many
 abbrev pub counted_to : {E : Type 0} → (ℕ → ℕ → E) → Slot → ℕ → List ℕ → Result (Unit {0}) E
 counted_to fault s most ns = check (one_to most (length ns)) (of_slot fault s)
 

@@ -1,8 +1,5 @@
 -- Numbers at the front of a text, one at a time and four at a time.
-use Rattle.std.specs.Prelude.{◌≡◌, ℕ, ◌+◌, ◌*◌, ◌<◌, ◌≤◌, ◌⊎◌, List, [], ◌∷◌, ◌++◌, length, take, drop, slice_index, true, Some, None}
-use Rattle.std.specs.List.{list_all}
-use Rattle.std.specs.Char.{is_ascii_digit}
-use Rattle.std.specs.Str.Parse.{digits_value}
+use Rattle.std.specs.Prelude.{◌≡◌, ℕ, ◌+◌, ◌*◌, ◌<◌, ◌≤◌, ◌⊎◌, List, [], ◌∷◌, ◌++◌, length, drop, slice_index, Some, None}
 use Rattle.buck_record.specs.bytes.White.{first_word, after_word, words}
 use Rattle.buck_record.specs.bytes.Record.{number_at_most}
 
@@ -14,16 +11,10 @@ pub record IsFront (text : List ℕ) (v : ℕ) (left : List ℕ) : Type 0 where
   pub shorter : length left < length text
   pub room : 0 < length left → length left + 2 ≤ length text  -- a byte of the word and a white one
 
--- the text begins with n digits, which stand for v
-pub record Run (text : List ℕ) (n v : ℕ) : Type 0 where
-  pub digits : list_all is_ascii_digit (take n text) ≡ true
-  pub value : v ≡ digits_value 10 (take n text)
-
--- the text's first word is a number of at most `most`, and it was added to a list
-pub record IsPushed (most : ℕ) (text left before after : List ℕ) : Type 0 where
+-- the text's first word is a number, and it was added to a list
+pub record IsPushed (text left before after : List ℕ) : Type 0 where
   pub v : ℕ
   pub front : IsFront text v left
-  pub small : v ≤ most
   pub added : after ≡ before ++ v ∷ []
 
 -- the text's first byte is white, and nothing was added
@@ -32,22 +23,22 @@ pub record IsPassed (text left before after : List ℕ) : Type 0 where
   pub shorter : length left < length text
   pub same : after ≡ before
 
--- the text's first word is no number of at most `most`
-pub record IsStuck (most : ℕ) (text : List ℕ) : Type 0 where
+-- the text's first word is no number
+pub record IsStuck (text : List ℕ) : Type 0 where
   pub word : List ℕ
   pub more : List (List ℕ)
   pub words : words text ≡ word ∷ more
-  pub wrong : number_at_most most word ≡ None
+  pub wrong : number_at_most 4294967295 word ≡ None
 
 -- a number was added, or a byte was passed over
-abbrev pub IsStep : ℕ → List ℕ → List ℕ → List ℕ → List ℕ → Type 0
-IsStep most text left before after = IsPushed most text left before after ⊎ IsPassed text left before after
+abbrev pub IsStep : List ℕ → List ℕ → List ℕ → List ℕ → Type 0
+IsStep text left before after = IsPushed text left before after ⊎ IsPassed text left before after
 
 -- a list of so many numbers, with room for so many in all, takes the numbers of so many bytes: one for each two
 abbrev pub HasRoom : ℕ → ℕ → ℕ → Type 0
 HasRoom len capacity bytes = 2 * len + bytes + 1 ≤ 2 * capacity
 
--- four bytes, the first the lowest, are three digits and a blank, and the digits write v
+-- four bytes, the first the lowest, are three digits and a space, and the digits write v
 pub record IsThree (group v : ℕ) : Type 0 where
   pub a : ℕ
   pub b : ℕ
@@ -68,7 +59,6 @@ four_of xs = slice_index xs 0 ∷ slice_index xs 1 ∷ slice_index xs 2 ∷ slic
 -- the text's first four words are four numbers of three digits, and `left` has the other words
 pub record HasFronts (text values left : List ℕ) : Type 0 where
   pub long : length left + 16 ≡ length text
-  pub small : (i : ℕ) → i < 4 → slice_index values i ≤ 999
   pub first : IsFront text (slice_index values 0) (drop 4 text)
   pub second : IsFront (drop 4 text) (slice_index values 1) (drop 8 text)
   pub third : IsFront (drop 8 text) (slice_index values 2) (drop 12 text)

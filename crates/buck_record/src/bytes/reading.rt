@@ -7,18 +7,17 @@ ghost use Rattle.buck_record.specs.bytes.Record.{item_of, items_of, number_at_mo
 ghost use Rattle.buck_record.specs.checking.Table.{only_in};
 ghost use Rattle.buck_record.specs.bytes.White.{first_word, after_word};
 
-use crate::bytes::digits::{cut_head, cut_number, number_at_most};
+use crate::bytes::digits::cut_head;
 use crate::bytes::white::{trim, trim_start};
-use crate::bytes::words::Words;
 use crate::checking::table::is_in;
 use crate::fault::RecordFault;
 use crate::item::{Item, Piece};
 use crate::pass::cursor::cut_piece;
-use crate::pass::short_words::front_quick;
+use crate::pass::kept_numbers::numbers_into;
 use crate::slot::Slot;
 use std::alloc::{AllocError, Global};
 
-/// The item of a piece, where it has a head.
+/// The item of a piece, if it has a head.
 #[tactic(auto, unfolding(crate::specs::bytes::Record::item_of))]
 pub(crate) fn read_piece<'a>(piece: &'a [u8]) -> Option<Piece<'a>>
     ensures { result ≡ item_of piece.now }
@@ -38,11 +37,11 @@ pub(crate) fn read_piece<'a>(piece: &'a [u8]) -> Option<Piece<'a>>
 
 /// The items of a file's bytes, in file order, each with its rest borrowed from them.
 ///
-/// The bytes are cut at each tilde. Each piece is trimmed of white bytes (blank, tab, line feed, carriage return) at
+/// The bytes are cut at each tilde. Each piece is trimmed of whitespace (space, tab, line feed, carriage return) at
 /// both ends, and empty pieces are left out. Every other piece is an item, and begins with its head: two words of
-/// digits set apart by white bytes, a number and a kind of at most 65,535 each. What follows, trimmed, is its rest.
+/// digits separated by whitespace, a number and a kind of at most 65,535 each. What follows, trimmed, is its rest.
 ///
-/// Refused as `Head` with the least item, counted from 1, that has no head, and as `Memory` where memory runs out.
+/// Refused as `Head` with the least item, counted from 1, that has no head, and as `Memory` if memory runs out.
 pub fn pieces<'a>(alloc: Global, bytes: &'a [u8]) -> Result<Vec<Piece<'a>>, RecordFault>
     ensures { Gives Memory (listed result) (with_fault (λ k. Head k) (items_of bytes.now)) }
 {
@@ -60,8 +59,8 @@ pub fn pieces<'a>(alloc: Global, bytes: &'a [u8]) -> Result<Vec<Piece<'a>>, Reco
     Ok(held)
 }
 
-/// The items of a file's bytes that stand in one of the slots, as [`pieces`] has them. All others are read and left out,
-/// and take no memory.
+/// The items of a file's bytes that stand in one of the slots, as [`pieces`] has them. All others are read and left
+/// out, and take no memory.
 ///
 /// Refused as [`pieces`] refuses: as `Head` with the least item, counted from 1 among all, that has no head.
 pub fn pieces_at<'a>(
@@ -115,64 +114,42 @@ pub fn items(alloc: Global, bytes: &[u8]) -> Result<Vec<Item>, RecordFault>
     Ok(to_items(alloc, found.as_slice())?)
 }
 
-/// The number that a text begins with, of at most 4,294,967,295, and the bytes after the white byte that ends its word.
-/// Short words are read straight on, any other digit by digit.
-fn first_number(text: &[u8]) -> Option<(u64, &[u8])>
-    requires { 0 < length (first_word text.now) }
-    ensures value { option_map (λ cut. cut.0) result ≡ number_at_most 4294967295 (first_word text.now) }
-    ensures after { IfSome result (λ cut. cut.1.now ≡ after_word text.now) }
-    ensures small { IfSome result (λ cut. cut.0 ≤ 4294967295) }
-{
-    match front_quick(9999, text) {
-        Some((value, after)) => Some((u64::from(value), after)),
-        None => cut_number(4294967295, text),
-    }
-}
-
-/// The numbers of a text: its words, set apart by white bytes, each of one or more digits and at most 4,294,967,295.
+/// The numbers of a text: its words, separated by whitespace, each of one or more digits and at most 4,294,967,295.
 /// Leading zeros are accepted, and a text of no words gives no numbers.
 ///
 /// Refused as `Digits` with the place of the first word, counted from 1, that is no such number, and as `Memory`
-/// where memory runs out.
+/// if memory runs out.
 pub fn numbers(alloc: Global, text: &[u8]) -> Result<Vec<u32>, RecordFault>
     ensures { Gives Memory (listed result) (with_fault (λ k. Digits k) (numbers_of text.now)) }
 {
     let mut held = Vec::new(alloc);
-    let mut rest = trim_start(text);
-    while !rest.is_empty() {
-        let Some((number, after)) = first_number(rest) else {
-            return Err(RecordFault::Digits {
-                place: held.len() + 1,
-            });
-        };
-        held.push(number as u32)?;
-        rest = trim_start(after);
+    if !numbers_into(text, &mut held)? {
+        return Err(RecordFault::Digits {
+            place: held.len() + 1,
+        });
     }
-    Ok(held)
+    // The copy has no more room than it needs.
+    Ok(Vec::from_slice(alloc, held.as_slice())?)
 }
 
-/// The one number of a text, where it is at most `most`.
+/// The one number of a text, if it is at most `most`.
 fn number_in(most: u64, text: &[u8]) -> Result<u64, RecordFault>
     ensures value { result ≡ with_fault (λ k. Digits k) (number_of most text.now) }
     ensures small { IfOk result (λ n. n ≤ most) }
 {
-    let mut words = Words::of(text);
-    let Some(word) = words.next() else {
+    let Some((number, after)) = cut_head(most, trim_start(text)) else {
         return Err(RecordFault::Digits { place: 1 });
     };
-    let Some(number) = number_at_most(most, word) else {
-        return Err(RecordFault::Digits { place: 1 });
-    };
-    match words.next() {
-        None => Ok(number),
-        Some(_) => Err(RecordFault::Digits { place: 2 }),
+    if !trim_start(after).is_empty() {
+        return Err(RecordFault::Digits { place: 2 });
     }
+    Ok(number)
 }
 
 /// The one number of a text: its only word, of digits and at most 4,294,967,295. It takes no memory.
 ///
-/// Refused as `Digits`, with place 1 where there is no word or the first is no such number, and else with place 2
-/// where there are more words.
+/// Refused as `Digits`, with place 1 if there is no word or the first is no such number, and else with place 2
+/// if there are more words.
 pub fn number(text: &[u8]) -> Result<u32, RecordFault>
     ensures { result ≡ with_fault (λ k. Digits k) (number_of 4294967295 text.now) }
 {

@@ -1,18 +1,12 @@
 //! White bytes, and texts without them at their ends.
 ghost use Rattle.std.specs.Prelude.{◌≡◌, not, position};
-ghost use Rattle.buck_record.specs.bytes.White.{is_white, trim_start, trim_end, trim, first_word, after_word};
+ghost use Rattle.buck_record.specs.bytes.White.{is_white, trim_start, trim_end, trim};
 
-/// Whether the byte is a blank, a tab, a line feed or a carriage return.
+/// Whether the byte is a space, a tab, a line feed or a carriage return.
 pub(crate) fn is_white(byte: u8) -> bool
     ensures { result ≡ is_white byte }
 {
     byte == b' ' || byte == b'\t' || byte == b'\n' || byte == b'\r'
-}
-
-fn first_white(bytes: &[u8]) -> Option<usize>
-    ensures { result ≡ position is_white bytes.now }
-{
-    bytes.iter().position(|b| is_white(*b))
 }
 
 fn first_dark(bytes: &[u8]) -> Option<usize>
@@ -45,20 +39,9 @@ pub(crate) fn trim_end(bytes: &[u8]) -> &[u8]
     &bytes[..0]
 }
 
-/// The bytes without white bytes at both ends.
+/// The bytes without whitespace at both ends.
 pub(crate) fn trim(bytes: &[u8]) -> &[u8]
     ensures { result.now ≡ trim bytes.now }
 {
     trim_end(trim_start(bytes))
-}
-
-/// The bytes up to the first white one, and those after it.
-pub(crate) fn cut_word(bytes: &[u8]) -> (&[u8], &[u8])
-    ensures word { result.0.now ≡ first_word bytes.now }
-    ensures after { result.1.now ≡ after_word bytes.now }
-{
-    match first_white(bytes) {
-        None => (bytes, &bytes[bytes.len()..]),
-        Some(end) => (&bytes[..end], &bytes[end + 1..]),
-    }
 }

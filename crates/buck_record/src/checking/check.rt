@@ -11,7 +11,7 @@ use crate::listed::Listed;
 use crate::slot::Slot;
 use std::alloc::{AllocError, Global};
 
-/// Nothing where the test holds, and else the fault.
+/// Nothing if the test holds, and else the fault.
 pub fn check<E: Drop>(holds: bool, fault: E) -> Result<(), E>
     ensures { result ≡ check holds fault }
 {
@@ -49,8 +49,8 @@ pub fn each<T, E, F: Fn(&T) -> Result<(), E>>(xs: &[T], f: F) -> Result<(), E>
     Ok(())
 }
 
-/// What the closure makes of each element, in order, or the fault of the first of which it makes nothing; or the fault
-/// of a refused growth.
+/// Collects the results of a closure for each element, in order, or the fault of the first element that it refuses; or
+/// the fault of a failed allocation.
 pub fn make_each<T, U: Drop, E: From<AllocError>, F: Fn(&T) -> Result<U, E>>(
     alloc: Global,
     xs: &[T],

@@ -20,7 +20,7 @@ use std::alloc::{AllocError, Global};
 pub const FILE: Slot = slot!(1, 2);
 
 /// The items of a file's bytes, as [`pieces`] has them. Refused by the fault that is made of the place of the first
-/// item, counted from 1, that has no head, or by that of a refused growth.
+/// item, counted from 1, that has no head, or by that of a failed allocation.
 pub fn items_in<'a, E: From<AllocError>, F: FnOnce(usize) -> E>(
     alloc: Global,
     bytes: &'a [u8],
@@ -37,7 +37,7 @@ pub fn items_in<'a, E: From<AllocError>, F: FnOnce(usize) -> E>(
     }
 }
 
-/// The items of a file's bytes that stand in one of the slots, as [`pieces_at`] has them, with the faults of a file form.
+/// The items of a file's bytes that stand in one of the slots, as [`pieces_at`] has them, with the faults of a form.
 pub fn items_at<'a, E: FormFault>(
     alloc: Global,
     bytes: &'a [u8],
@@ -52,9 +52,9 @@ pub fn items_at<'a, E: FormFault>(
     }
 }
 
-/// The numbers of the first item in a slot, as [`numbers`] has them, and none where no item stands there. Refused by
+/// The numbers of the first item in a slot, as [`numbers`] has them, and none if no item stands there. Refused by
 /// the fault that names the slot and the place of the first word, counted from 1, that is no number, or by that of a
-/// refused growth.
+/// failed allocation.
 #[tactic(auto, unfolding(crate::specs::checking::Rules::numbers_in))]
 pub fn numbers_in<'a, E: FormFault>(
     alloc: Global,
@@ -77,11 +77,17 @@ pub fn within(low: usize, high: usize, n: usize) -> bool
     low <= n && n <= high
 }
 
-/// Each number is from `low` to `high`.
+/// Each number is from `low` to `high`. No way leads out of the loop, so that several are compared at once.
 pub fn all_within(low: u32, high: u32, numbers: &[u32]) -> bool
     ensures { result ≡ all_within low high numbers.now }
 {
-    numbers.iter().all(|n| low <= *n && *n <= high)
+    let mut fits = true;
+    for number in numbers {
+        if !(low <= *number && *number <= high) {
+            fits = false;
+        }
+    }
+    fits
 }
 
 /// There is one, and there are at most `most`.
@@ -91,14 +97,14 @@ pub fn one_to(most: usize, n: usize) -> bool
     within(1, most, n)
 }
 
-/// The fault of a slot, where one of its numbers is out of its range.
+/// The fault of a slot, if one of its numbers is out of its range.
 pub fn all_in_range<E: FormFault>(slot: Slot, numbers: &[u32]) -> Result<(), E>
     ensures { result ≡ all_in_range E.range slot numbers.now }
 {
     check(all_within(slot.low, slot.high, numbers), E::range(slot))
 }
 
-/// The fault of a slot, where it has no number or more than `most`.
+/// The fault of a slot, if it has no number or more than `most`.
 pub fn counted_to<E: FormFault>(slot: Slot, most: usize, numbers: &[u32]) -> Result<(), E>
     ensures { result ≡ counted_to E.count slot most numbers.now }
 {

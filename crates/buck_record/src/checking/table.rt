@@ -42,7 +42,7 @@ fn place_of_first(items: &[Piece<'_>], slot: Slot) -> Option<usize>
     items.iter().position(|item| is_at(item, slot))
 }
 
-/// The rest of the first item in a slot, or the empty text where no item stands there.
+/// The rest of the first item in a slot, or the empty text if no item stands there.
 #[tactic(auto, unfolding(crate::specs::checking::Table::rest_in))]
 pub fn rest<'a>(items: &'a [Piece<'a>], slot: Slot) -> &'a [u8]
     ensures { result.now ≡ rest_in slot items.now }
@@ -67,7 +67,7 @@ pub fn twice(items: &[Piece<'_>], slots: &[Slot]) -> Option<Slot>
     slots.iter().copied().find(|slot| count(items, *slot) > 1)
 }
 
-/// The items before the first in a slot, or all of them where no item stands there.
+/// The items before the first in a slot, or all of them if no item stands there.
 pub fn front<'a>(items: &'a [Piece<'a>], slot: Slot) -> &'a [Piece<'a>]
     ensures { result.now ≡ before_first (is_at slot) items.now }
 {
@@ -87,7 +87,7 @@ fn group_at<'a>(items: &'a [Piece<'a>], i: usize, slot: Slot) -> &'a [Piece<'a>]
 }
 
 /// The groups that the items of a slot begin: each such item, with the items after it up to the next in the slot.
-/// Refused where memory runs out.
+/// Refused if memory runs out.
 pub fn groups<'a>(
     alloc: Global,
     items: &'a [Piece<'a>],

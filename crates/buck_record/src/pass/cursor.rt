@@ -26,7 +26,7 @@ pub(crate) fn cut_part(text: &[u8]) -> (&[u8], &[u8])
     }
 }
 
-/// The first piece of a text, and what is left of the text after the tilde that ends it. `None` where there is none.
+/// The first piece of a text, and what is left of the text after the tilde that ends it. `None` if there is none.
 pub(crate) fn cut_piece(text: &[u8]) -> Option<(&[u8], &[u8])>
     ensures first { IfSome result (λ w. pieces text.now ≡ w.0.now ∷ pieces w.1.now) }
     ensures shorter { IfSome result (λ w. length w.1.now < length text.now) }
@@ -60,8 +60,8 @@ fn rest_in(slot: Slot, piece: &[u8]) -> Option<&[u8]>
     Some(item.rest)
 }
 
-/// The rest of the item that a text begins with, where that item stands in this slot, and what is left of the text
-/// after the tilde that ends it: whatever is left, the text is read as this item and then that. `None` where there is
+/// The rest of the item that a text begins with, if that item stands in this slot, and what is left of the text
+/// after the tilde that ends it: whatever is left, the text is read as this item and then that. `None` if there is
 /// no item, or another, or an empty piece before it.
 pub fn next_in(slot: Slot, text: &[u8]) -> Option<(&[u8], &[u8])>
     ensures { IfSome result (λ w. Leads text.now (item_in slot w.0.now) w.1.now) }
@@ -77,7 +77,7 @@ pub fn next_in(slot: Slot, text: &[u8]) -> Option<(&[u8], &[u8])>
     Some((rest, left))
 }
 
-/// Whether a text is seen at once to have no item: it has white bytes, and at most one tilde at its end.
+/// Whether a text is seen at once to have no item: it has whitespace, and at most one tilde at its end.
 pub fn is_done(text: &[u8]) -> bool
     ensures { IsTrue result → HasItems text.now [] }
 {

@@ -1,11 +1,10 @@
 //! Words of three digits, four at a time.
 ghost use Rattle.std.specs.Prelude.{◌≡◌, ℕ, ◌+◌, ◌-◌, ◌*◌, ◌/◌, ◌%◌, ◌<◌, ◌≤◌, length, drop, slice_index, IfSome, IsTrue, ◌++◌};
-ghost use Rattle.std.specs.Vec.{vec_len, vec_capacity};
-ghost use Rattle.buck_record.specs.inner.Front.{IsThree, HasFour, HasFronts, four_of};
+ghost use Rattle.buck_record.specs.inner.Front.{IsThree, HasFour, HasFronts};
 
 use std::simd::prelude::*;
 
-/// Each lane less the bytes of three noughts and a blank.
+/// Each lane less the bytes of three noughts and a space.
 #[inline(always)]
 fn less_blanks(v: u32x4) -> u32x4
     ensures { HasFour result (λ i. (slice_index v i + 3754938320) % 4294967296) }
@@ -59,16 +58,17 @@ fn are_digits(v: u32x4) -> bool
     v.simd_gt(u32x4::splat(9)).to_bitmask() == 0
 }
 
-/// The numbers of four groups of four bytes, each three digits and a blank.
+/// The numbers of four groups of four bytes, each three digits and a space.
 #[inline(always)]
 fn four_threes(groups: u32x4) -> Option<[u32; 4]>
     ensures { IfSome result (λ vs. (i : ℕ) → i < 4 → IsThree (slice_index groups i) (slice_index vs i)) }
 {
+    // A byte below a nought wraps to one above 9, so what it borrows from the next byte never goes unseen.
     let digits = less_blanks(groups);
     let a = low_byte(digits);
     let rest = byte_up(digits);
     let b = low_byte(rest);
-    // It holds the last byte too, so it is a digit only where that is a blank.
+    // It holds the last byte too, so it is a digit only if that is a space.
     let c = byte_up(rest);
     if !are_digits(greater(greater(a, b), c)) {
         return None;
@@ -76,7 +76,7 @@ fn four_threes(groups: u32x4) -> Option<[u32; 4]>
     Some(plus(plus(times(a, 100), times(b, 10)), c).to_array())
 }
 
-/// The numbers that a text begins with, where these are four times three digits and a blank.
+/// The numbers that a text begins with, if these are four times three digits and a space.
 #[inline(always)]
 pub(crate) fn front_fours(text: &[u8]) -> Option<[u32; 4]>
     ensures { IfSome result (λ vs. HasFronts text.now vs (drop 16 text.now)) }
@@ -85,19 +85,4 @@ pub(crate) fn front_fours(text: &[u8]) -> Option<[u32; 4]>
         return None;
     }
     four_threes(u32x4::from_le_bytes(u8x16::from_slice(text)))
-}
-
-/// Adds four numbers.
-#[inline(always)]
-pub(crate) fn push_four(out: &mut Vec<u16>, values: [u32; 4])
-    requires room { vec_len out.old + 4 ≤ vec_capacity out.old }
-    requires small { (i : ℕ) → i < 4 → slice_index values i ≤ 999 }
-    ensures items { out.new.items ≡ out.old.items ++ four_of values }
-    ensures len { vec_len out.new ≡ vec_len out.old + 4 }
-    ensures capacity { vec_capacity out.new ≡ vec_capacity out.old }
-{
-    out.push_reserved(values[0] as u16);
-    out.push_reserved(values[1] as u16);
-    out.push_reserved(values[2] as u16);
-    out.push_reserved(values[3] as u16);
 }

@@ -47,13 +47,15 @@ fn cut_before(slot: Slot, text: &[u8], near: usize) -> Option<(&[u8], &[u8])>
 
 /// A text in two parts, to be read in at most so many threads: the items of the text are those of the first part and
 /// then those of the second. Half of the threads, rounded down, are for the first and the others for the second, which
-/// begins with an item of this slot, and each is about as long as its threads' share. `None` where there is one thread,
-/// where the text has less than 131,072 bytes, or where no such item is among the next 64.
+/// begins with an item of this slot, and each is about as long as its threads' share. `None` if there is one thread,
+/// if the text has less than 131,072 bytes, or if no such item is among the next 64.
 #[tactic(auto, using(crate::proofs::PartLemmas::share_within))]
 pub fn two_parts(slot: Slot, text: &[u8], threads: usize) -> Option<(&[u8], &[u8])>
     ensures joins { IfSome result (λ w. Joins text.now w.0.now w.1.now) }
     ensures several { IfSome result (λ _. 1 < threads) }
 {
+    // Two parts, each of which is halved again: a list of parts has a longer proof. They meet at a tilde, where items
+    // end, so no thread needs the text before its part.
     if threads < 2 {
         return None;
     }

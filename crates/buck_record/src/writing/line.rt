@@ -1,4 +1,4 @@
-//! Lines and items as they are written: words, then numbers, a blank before each.
+//! Lines and items as they are written: words, then numbers, a space before each.
 ghost use Rattle.std.specs.Prelude.{◌≡◌, ◌<◌, ◌≤◌, ◌++◌, ◌∷◌, OnOk, OnErr};
 ghost use Rattle.std.specs.Fmt.{decimal};
 ghost use Rattle.buck_record.specs.pass.Added.{IsLonger};
@@ -8,7 +8,7 @@ ghost use Rattle.buck_record.specs.writing.Written.{spelled};
 use crate::memory::Memory;
 use itoa::Buffer;
 
-/// Puts a number of one digit, after a blank: grades, rows and columns have one, and most stems so many logs.
+/// Puts a number of one digit, after a space: grades, rows and columns have one, and most stems so many logs.
 #[inline(always)]
 fn put_one(out: &mut Vec<u8>, number: u32) -> Result<(), Memory>
     requires { number < 10 }
@@ -19,7 +19,7 @@ fn put_one(out: &mut Vec<u8>, number: u32) -> Result<(), Memory>
     Ok(())
 }
 
-/// Puts a number of three digits, after a blank: most diameters in mm have three.
+/// Puts a number of three digits, after a space: most diameters in mm have three.
 #[tactic(auto, using(crate::proofs::Three::decimal_of_three))]
 #[inline(always)]
 fn put_three(out: &mut Vec<u8>, number: u32) -> Result<(), Memory>
@@ -34,7 +34,7 @@ fn put_three(out: &mut Vec<u8>, number: u32) -> Result<(), Memory>
     Ok(())
 }
 
-/// Puts a number of four digits, after a blank: most lengths and places in mm have four.
+/// Puts a number of four digits, after a space: most lengths and places in mm have four.
 #[tactic(auto, using(crate::proofs::Three::decimal_of_four))]
 #[inline(always)]
 fn put_four(out: &mut Vec<u8>, number: u32) -> Result<(), Memory>
@@ -68,13 +68,15 @@ pub fn put_after(out: &mut Vec<u8>, byte: u8, number: u128) -> Result<(), Memory
     Ok(())
 }
 
-/// Puts a number of at most four digits, after a blank.
+/// Puts a number of at most four digits, after a space.
 #[inline(always)]
 fn put_small(out: &mut Vec<u8>, number: u32) -> Result<(), Memory>
     requires { number < 10000 }
     ensures put { OnOk result (out.new.items ≡ out.old.items ++ (32 ∷ decimal number)) }
     ensures kept { OnErr result (out.new.items ≡ out.old.items) }
 {
+    // Nearly all numbers have one, three or four digits, and these are written without a loop: to use the library's
+    // `itoa` for all costs several per cent of `buck`.
     if number < 10 {
         return put_one(out, number);
     }
@@ -87,7 +89,7 @@ fn put_small(out: &mut Vec<u8>, number: u32) -> Result<(), Memory>
     put_four(out, number)
 }
 
-/// Puts a number in decimal, after a blank. Refused as `Memory` with the buffer as it was.
+/// Puts a number in decimal, after a space. Refused as `Memory` with the buffer as it was.
 #[inline(always)]
 pub fn put_number(out: &mut Vec<u8>, number: u128) -> Result<(), Memory>
     ensures put { OnOk result (out.new.items ≡ out.old.items ++ (32 ∷ decimal number)) }
@@ -99,7 +101,7 @@ pub fn put_number(out: &mut Vec<u8>, number: u128) -> Result<(), Memory>
     put_after(out, b' ', number)
 }
 
-/// Puts numbers in decimal, each after a blank. Refused as `Memory`, where some of them may have been put.
+/// Puts numbers in decimal, each after a space. If it is refused as `Memory`, some of them may have been put.
 pub fn put_numbers(out: &mut Vec<u8>, numbers: &[u128]) -> Result<(), Memory>
     ensures put { OnOk result (out.new.items ≡ out.old.items ++ spelled numbers.now) }
     ensures kept { OnErr result (IsLonger out.old.items out.new.items) }
@@ -110,7 +112,7 @@ pub fn put_numbers(out: &mut Vec<u8>, numbers: &[u128]) -> Result<(), Memory>
     Ok(())
 }
 
-/// Puts a line: words, and numbers after them. Refused as `Memory`, where a part of it may have been put.
+/// Puts a line: words, and numbers after them. If it is refused as `Memory`, a part of it may have been put.
 pub fn put_line(out: &mut Vec<u8>, words: &[u8], numbers: &[u128]) -> Result<(), Memory>
     ensures put { OnOk result (out.new.items ≡ out.old.items ++ line_of words.now numbers.now) }
     ensures kept { OnErr result (IsLonger out.old.items out.new.items) }

@@ -2,7 +2,7 @@
 use crate::numbered::Numbered;
 use std::fmt;
 
-/// Writes words, the fields of a fault, each after a blank, and more words.
+/// Writes words, the fields of a fault, each after a space, and more words.
 pub fn write_fields<W: fmt::Write, F: Numbered>(
     f: &mut fmt::Formatter<W>,
     before: &str,

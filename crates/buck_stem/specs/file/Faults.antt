@@ -1,4 +1,4 @@
--- What is told of a stem file's fault: its number, then its fields in the order of their definition. Memory that ran
+-- How a stem file's fault is reported: its number, then its fields in the order of their definition. Memory that ran
 -- out has no number.
 use Rattle.std.specs.Prelude.{ℕ, List, [], ◌∷◌}
 use Rattle.buck_stem.specs.declared.file.fault.StmFault.{StmFault}

@@ -1,6 +1,6 @@
 -- The stems of a file's bytes, or their refusal: the first of eight lines that applies, and within a line the first
 -- item in the order of the table, `1 2` and then stem by stem. The table stands in src/file/slots: what each item says,
--- the range of its numbers, and how many there may be, where that isn't one. The chain of the lines, `stm_of`, stands
+-- the range of its numbers, and how many there may be, if more than one. The chain of the lines, `stm_of`, stands
 -- at the end of this page.
 use Rattle.std.specs.Prelude.{ℕ, Bool, ◌*◌, ◌&&◌, ◌==◌, ◌%◌, List, [], ◌∷◌, length, map, slice_index, nat_le, Result, Ok, codes}
 use Rattle.std.specs.Str.{bytes_eq}
@@ -52,7 +52,7 @@ draft_of stem = do
   zones ← numbers_in Digits ZONES stem
   Ok (record { number = number; species = species; samples = samples; zones = zones })
 
--- the numbers at odd places, the last one too where it has no grade after it
+-- the numbers at odd places, the last one too if it has no grade after it
 abbrev pub starts : List ℕ → List ℕ
 starts [] = []
 starts (start ∷ []) = start ∷ []

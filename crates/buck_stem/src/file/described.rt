@@ -14,7 +14,7 @@ pub static ITEMS: [Described; 5] = [
     described!([SAMPLES], "diameters", Member, UpTo(MOST_SAMPLES)),
     described!(
         [STARTS, GRADES],
-        "zones",
+        "grade zones",
         Member,
         Pairs(MOST_ZONES),
         Rising(2)

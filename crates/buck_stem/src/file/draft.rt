@@ -22,6 +22,18 @@ pub(crate) struct Draft {
     pub zones: Listed<u32>,
 }
 
+impl Draft {
+    /// No numbers. It takes no memory.
+    pub fn empty(alloc: Global) -> Draft {
+        Draft {
+            number: Listed::of(Vec::new(alloc)),
+            species: Listed::of(Vec::new(alloc)),
+            samples: Listed::of(Vec::new(alloc)),
+            zones: Listed::of(Vec::new(alloc)),
+        }
+    }
+}
+
 #[tactic(auto, unfolding(crate::specs::file::Stm::draft_of))]
 fn draft_of<'a>(alloc: Global, stem: &'a [Piece<'a>]) -> Result<Draft, StmFault>
     ensures { Gives Memory result (draft_of stem.now) }

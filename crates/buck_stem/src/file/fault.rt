@@ -9,8 +9,8 @@ use std::alloc::{AllocError, AllocFailed};
 use std::error::Error;
 use std::fmt;
 
-/// What is wrong with a stem file: the first refusal that applies to its bytes, in this order, and within it the first
-/// item in the order of the file's table. `number` and `kind` are those of the item's head, 0 to 65,535.
+/// Why a stem file is refused: the first refusal that applies to its bytes, in this order, and within it the first item
+/// in the order of the file's table. `number` and `kind` are those of the item's head, 0 to 65,535.
 #[derive(Clone, Copy, Debug, PartialEq, Eq)]
 pub enum StmFault {
     /// The first item without a head of two numbers below 65,536: `item` counts from 1 in file order.
@@ -52,7 +52,7 @@ pub enum StmFault {
         number: u16,
         kind: u16,
     },
-    /// A growth was refused.
+    /// An allocation failed.
     Memory,
 }
 

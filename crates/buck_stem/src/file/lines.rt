@@ -1,8 +1,8 @@
 //! The lines of the order of refusals.
-ghost use Rattle.std.specs.Prelude.{◌≡◌};
-ghost use Rattle.buck_record.specs.checking.Check.{each};
+ghost use Rattle.std.specs.Prelude.{◌≡◌, IfOk};
 ghost use Rattle.buck_record.specs.checking.Rules.{has_no_strays};
 ghost use Rattle.buck_stem.specs.declared.file.slots.TheConstants.{STEM, MEMBERS};
+ghost use Rattle.buck_stem.specs.inner.Ready.{IsReadyDraft};
 ghost use Rattle.buck_stem.specs.file.Stm.{
   groups,
   stem_present,
@@ -42,12 +42,6 @@ fn stem_present<'a>(stem: &'a [Piece<'a>]) -> Result<(), StmFault>
     all_there(&NEEDED, stem)
 }
 
-fn each_present(stems: &[Group<'_>]) -> Result<(), StmFault>
-    ensures { result ≡ each stem_present stems.now }
-{
-    each(stems, |stem| stem_present(stem.items()))
-}
-
 /// Each item that must be there is.
 #[tactic(auto, unfolding(crate::specs::file::Stm::present))]
 pub(crate) fn present<'a>(items: &'a [Piece<'a>], stems: &[Group<'_>]) -> Result<(), StmFault>
@@ -55,7 +49,7 @@ pub(crate) fn present<'a>(items: &'a [Piece<'a>], stems: &[Group<'_>]) -> Result
     ensures { result ≡ present items.now }
 {
     check(has_no_strays(items), StmFault::missing(STEM))?;
-    each_present(stems)
+    each(stems, |stem| stem_present(stem.items()))
 }
 
 #[tactic(auto, unfolding(crate::specs::file::Stm::stem_single))]
@@ -65,12 +59,6 @@ fn stem_single<'a>(stem: &'a [Piece<'a>]) -> Result<(), StmFault>
     all_single(&MEMBERS, stem)
 }
 
-fn each_single(stems: &[Group<'_>]) -> Result<(), StmFault>
-    ensures { result ≡ each stem_single stems.now }
-{
-    each(stems, |stem| stem_single(stem.items()))
-}
-
 /// No item stands twice in the file or in its stem.
 #[tactic(auto, unfolding(crate::specs::file::Stm::single))]
 pub(crate) fn single<'a>(items: &'a [Piece<'a>], stems: &[Group<'_>]) -> Result<(), StmFault>
@@ -78,7 +66,7 @@ pub(crate) fn single<'a>(items: &'a [Piece<'a>], stems: &[Group<'_>]) -> Result<
     ensures { result ≡ single items.now }
 {
     all_single::<StmFault>(&[FILE], items)?;
-    each_single(stems)
+    each(stems, |stem| stem_single(stem.items()))
 }
 
 #[tactic(auto, unfolding(crate::specs::file::Stm::draft_range))]
@@ -131,4 +119,13 @@ pub(crate) fn in_number(drafts: &[Draft]) -> Result<(), StmFault>
     ensures { result ≡ in_number drafts.now }
 {
     each(drafts, |draft| draft_count(draft))
+}
+
+/// The numbers of a stem pass the last three lines.
+pub(crate) fn ready(draft: &Draft) -> Result<(), StmFault>
+    ensures { IfOk result (λ _. IsReadyDraft draft.now) }
+{
+    draft_range(draft)?;
+    draft_order(draft)?;
+    draft_count(draft)
 }

@@ -1,5 +1,5 @@
 //! Stem files that are read in several threads at once.
-ghost use Rattle.std.specs.Prelude.{◌≡◌, ◌++◌, IfOk, IfSome, OnOk, Ok};
+ghost use Rattle.std.specs.Prelude.{◌≡◌, ◌++◌, IfOk, OnOk, Ok};
 ghost use Rattle.std.specs.Thread.{IsSync};
 ghost use Rattle.buck_record.specs.Reading.{Gives, listed};
 ghost use Rattle.buck_stem.specs.declared.file.fault.StmFault.TheVariants.{Memory};
@@ -27,40 +27,36 @@ fn put_behind(stems: &mut Vec<Stem>, more: Vec<Stem>) -> Result<(), AllocError>
     Ok(())
 }
 
-/// The stems of a text in the plain order, up to its end, where the text is cut in two again and again, until there is
-/// a thread for each part.
+/// The stems of a text in the plain order, up to its end: the text is cut in two again and again, until there is a
+/// thread for each part.
 fn stems_in_parts<T: Threads + Sync>(
     rt: &T,
     alloc: Global,
     body: &[u8],
     threads: usize,
-) -> Result<Option<Vec<Stem>>, AllocError>
-    ensures { IfOk result (λ o. IfSome o (λ stems. HasStems body.now stems.items)) }
+) -> Result<Vec<Stem>, StmFault>
+    ensures { IfOk result (λ stems. HasStems body.now stems.items) }
 {
     let Some((front, back)) = two_parts(STEM, body, threads) else {
         return stems_of(alloc, body);
     };
     let (first, second) = thread::join(
         rt,
-        || -> Result<Option<Vec<Stem>>, AllocError>
+        || -> Result<Vec<Stem>, StmFault>
             requires { IsSync T.row }
-            ensures { IfOk result (λ o. IfSome o (λ stems. HasStems front.entry.now stems.items)) }
+            ensures { IfOk result (λ stems. HasStems front.entry.now stems.items) }
         { stems_in_parts(rt, alloc, front, threads / 2) },
-        || -> Result<Option<Vec<Stem>>, AllocError>
+        || -> Result<Vec<Stem>, StmFault>
             requires { IsSync T.row }
-            ensures { IfOk result (λ o. IfSome o (λ stems. HasStems back.entry.now stems.items)) }
+            ensures { IfOk result (λ stems. HasStems back.entry.now stems.items) }
         { stems_in_parts(rt, alloc, back, threads - threads / 2) },
     );
-    // Where a part isn't in the plain order, the whole file is read by its items: which of its refusals comes first
+    // If a part isn't in the plain order, the whole file is read by its items: which of its refusals comes first
     // depends on all parts.
-    let Some(mut stems) = first? else {
-        return Ok(None);
-    };
-    let Some(more) = second? else {
-        return Ok(None);
-    };
+    let mut stems = first?;
+    let more = second?;
     put_behind(&mut stems, more)?;
-    Ok(Some(stems))
+    Ok(stems)
 }
 
 /// `read_plain`, in at most so many threads at once.
@@ -69,18 +65,16 @@ fn read_plain_in_parts<T: Threads + Sync>(
     alloc: Global,
     bytes: &[u8],
     threads: usize,
-) -> Result<Option<Vec<Stem>>, AllocError>
-    ensures { IfOk result (λ o. IfSome o (λ stems. stm_of bytes.now ≡ Ok stems.items)) }
+) -> Result<Vec<Stem>, StmFault>
+    ensures { IfOk result (λ stems. stm_of bytes.now ≡ Ok stems.items) }
 {
-    let Some(body) = body_of(bytes) else {
-        return Ok(None);
-    };
-    stems_in_parts(rt, alloc, body, threads)
+    let body = body_of(bytes)?;
+    Ok(stems_in_parts(rt, alloc, body, threads)?)
 }
 
-/// [`read_stm`](crate::read_stm), where a file whose items stand in the order of the table, and that isn't
-/// short, is read in at most so many threads at once: each takes a part that begins with a stem. The answer is that of
-/// [`read_stm`](crate::read_stm), whatever the number, or `Memory` where a growth was refused.
+/// [`read_stm`](crate::read_stm) in at most so many threads at once, if the file's items stand in the order of the
+/// table and it isn't short: each takes a part that begins with a stem. The answer is that of
+/// [`read_stm`](crate::read_stm), whatever the number, or `Memory` if an allocation failed.
 pub fn read_stm_in_parts<T: Threads + Sync>(
     rt: &T,
     alloc: Global,
@@ -89,8 +83,9 @@ pub fn read_stm_in_parts<T: Threads + Sync>(
 ) -> Result<Vec<Stem>, StmFault>
     ensures { Gives Memory (listed result) (stm_of bytes.now) }
 {
-    match read_plain_in_parts(rt, alloc, bytes, threads)? {
-        Some(stems) => Ok(stems),
-        None => read_by_lines(alloc, bytes),
+    match read_plain_in_parts(rt, alloc, bytes, threads) {
+        Ok(stems) => Ok(stems),
+        Err(StmFault::Memory) => Err(StmFault::Memory),
+        Err(_) => read_by_lines(alloc, bytes),
     }
 }

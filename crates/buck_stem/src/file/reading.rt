@@ -3,7 +3,6 @@ ghost use Rattle.std.specs.Prelude.{◌≡◌, ◌<◌, All, IfOk, map};
 ghost use Rattle.buck_record.specs.Reading.{Gives, listed};
 ghost use Rattle.buck_stem.specs.declared.file.fault.StmFault.TheVariants.{Memory};
 ghost use Rattle.buck_stem.specs.inner.Ready.{IsReadyDraft};
-ghost use Rattle.buck_stem.specs.inner.Stages.{stems_in};
 ghost use Rattle.buck_stem.specs.file.Stm.{says_stm, drafts_in, checked, stm_of, parts_of};
 
 use crate::file::draft::{Draft, drafts_of};
@@ -31,15 +30,17 @@ fn samples_of(alloc: Global, numbers: &[u32]) -> Result<Vec<u16>, AllocError>
     requires { All (λ n. n < 65536) numbers.now }
     ensures { IfOk result (λ samples. samples.items ≡ numbers.now) }
 {
+    // A copy, with no more room than it needs: a list that grew as it was read would keep room for about twice the
+    // samples as long as the stem lives.
     let mut samples = Vec::with_capacity(alloc, numbers.len())?;
     for number in numbers {
-        samples.push(*number as u16)?;
+        samples.push_reserved(*number as u16);
     }
     Ok(samples)
 }
 
 /// The stem of numbers that are as they should be.
-fn stem_from(alloc: Global, draft: &Draft) -> Result<Stem, AllocError>
+pub(crate) fn stem_from(alloc: Global, draft: &Draft) -> Result<Stem, AllocError>
     requires { IsReadyDraft draft.now }
     ensures { IfOk result (λ stem. stem ≡ parts_of draft.now) }
 {
@@ -47,7 +48,7 @@ fn stem_from(alloc: Global, draft: &Draft) -> Result<Stem, AllocError>
     let species = draft.species.as_slice()[0] as u8;
     let samples = samples_of(alloc, draft.samples.as_slice())?;
     let zones = zones_of(alloc, draft.zones.as_slice())?;
-    Stem::of_parts(alloc, number, species, samples.as_slice(), zones)
+    Stem::of_parts(alloc, number, species, samples, zones)
 }
 
 /// The stems of drafts that passed the last three lines. Each draft is given up once its stem is made.
@@ -84,37 +85,30 @@ fn checked(drafts: &[Draft]) -> Result<(), StmFault>
     in_number(drafts)
 }
 
-/// The stems of drafts, where they pass the last three lines.
-#[tactic(auto, unfolding(crate::specs::inner::Stages::stems_in))]
-fn stems_in(alloc: Global, drafts: Listed<Draft>) -> Result<Vec<Stem>, StmFault>
-    ensures { Gives Memory (listed result) (stems_in drafts) }
-{
-    checked(drafts.as_slice())?;
-    Ok(stems_from(alloc, drafts.into_vec())?)
-}
-
-/// The stems of a file's bytes, or the first refusal that applies, line by line over lists of the table's items and their numbers.
-/// This takes items in any order, and it alone says why a file is refused.
-#[tactic(auto, unfolding(crate::specs::file::Stm::stm_of, crate::specs::inner::Stages::stems_in))]
+/// The stems of a file's bytes, or the first refusal that applies, line by line over lists of the table's items and
+/// their numbers. This takes items in any order, and it alone says why a file is refused.
+#[tactic(auto, unfolding(crate::specs::file::Stm::stm_of))]
 pub(crate) fn read_by_lines(alloc: Global, bytes: &[u8]) -> Result<Vec<Stem>, StmFault>
     ensures { Gives Memory (listed result) (stm_of bytes.now) }
 {
     let items = items_at::<StmFault>(alloc, bytes, &TABLE)?;
     let drafts = drafts_in(alloc, items.as_slice())?;
-    stems_in(alloc, drafts)
+    checked(drafts.as_slice())?;
+    Ok(stems_from(alloc, drafts.into_vec())?)
 }
 
 /// The stems of a stem file's bytes, in file order, or the first refusal that applies, as [`StmFault`] says; and
-/// `Memory` where a growth was refused. Items that aren't in the table are skipped and take no
-/// memory; each must have a number and a kind.
+/// `Memory` if an allocation failed. Items that aren't in the table are skipped and take no memory; each must have a
+/// number and a kind.
 ///
 /// A file whose items stand in the order of the table, stem by stem, is read in one pass over its bytes; any other is
 /// read line by line.
 pub fn read_stm(alloc: Global, bytes: &[u8]) -> Result<Vec<Stem>, StmFault>
     ensures { Gives Memory (listed result) (stm_of bytes.now) }
 {
-    match read_plain(alloc, bytes)? {
-        Some(stems) => Ok(stems),
-        None => read_by_lines(alloc, bytes),
+    match read_plain(alloc, bytes) {
+        Ok(stems) => Ok(stems),
+        Err(StmFault::Memory) => Err(StmFault::Memory),
+        Err(_) => read_by_lines(alloc, bytes),
     }
 }

@@ -8,32 +8,37 @@ use crate::file::slots::MOST_ZONES;
 use buck_record::Slot;
 use std::alloc::{AllocError, Global};
 
-fn is_within(low: u32, high: u32, n: u32) -> bool
-    ensures { result ≡ within low high n }
+/// The number is in the range of the slot.
+fn is_within(slot: Slot, n: u32) -> bool
+    ensures { result ≡ within slot.low slot.high n }
 {
-    low <= n && n <= high
+    slot.low <= n && n <= slot.high
 }
 
 /// Each number at an odd place is in the range of the item.
 pub(crate) fn starts_within(slot: Slot, zones: &[u32]) -> bool
     ensures { result ≡ all_within slot.low slot.high (starts zones.now) }
 {
-    for k in 0..zones.len().div_ceil(2) {
-        if !is_within(slot.low, slot.high, zones[2 * k]) {
+    let mut rest = zones;
+    while rest.len() > 1 {
+        if !is_within(slot, rest[0]) {
             return false;
         }
+        rest = &rest[2..];
     }
-    true
+    rest.is_empty() || is_within(slot, rest[0])
 }
 
 /// Each number at an even place is in the range of the item.
 pub(crate) fn grades_within(slot: Slot, zones: &[u32]) -> bool
     ensures { result ≡ all_within slot.low slot.high (grades zones.now) }
 {
-    for k in 0..zones.len() / 2 {
-        if !is_within(slot.low, slot.high, zones[2 * k + 1]) {
+    let mut rest = zones;
+    while rest.len() > 1 {
+        if !is_within(slot, rest[1]) {
             return false;
         }
+        rest = &rest[2..];
     }
     true
 }
@@ -42,10 +47,12 @@ pub(crate) fn grades_within(slot: Slot, zones: &[u32]) -> bool
 pub(crate) fn starts_rise(zones: &[u32]) -> bool
     ensures { result ≡ is_rising (starts zones.now) }
 {
-    for k in 1..zones.len().div_ceil(2) {
-        if zones[2 * k] <= zones[2 * (k - 1)] {
+    let mut rest = zones;
+    while rest.len() > 2 {
+        if rest[2] <= rest[0] {
             return false;
         }
+        rest = &rest[2..];
     }
     true
 }
@@ -63,8 +70,10 @@ pub(crate) fn zones_of(alloc: Global, numbers: &[u32]) -> Result<Vec<(u32, u8)>,
     ensures { IfOk result (λ zones. zones.items ≡ zones_of numbers.now) }
 {
     let mut zones = Vec::with_capacity(alloc, numbers.len() / 2)?;
-    for k in 0..numbers.len() / 2 {
-        zones.push((numbers[2 * k], numbers[2 * k + 1] as u8))?;
+    let mut rest = numbers;
+    while rest.len() > 1 {
+        zones.push((rest[0], rest[1] as u8))?;
+        rest = &rest[2..];
     }
     Ok(zones)
 }

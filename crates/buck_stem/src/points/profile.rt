@@ -140,10 +140,10 @@ impl<'a> Profile<'a> {
         ensures diameter { result ≡ diameter_at self.now.stem.samples (i * self.now.module) }
         ensures high { result ≤ 1500 }
     {
-        self.lists().diameters[i]
+        self.diameters()[i]
     }
 
-    /// The grades from point `i` on, where those from the next point on, up to whichever point, are `grades`: bit g - 1
+    /// The grades from point `i` on, if those from the next point on, up to whichever point, are `grades`: bit g - 1
     /// for grade g.
     pub fn grades_from(&self, i: usize, grades: u8) -> u8
         requires { i + 1 < points_of self.now }
@@ -160,6 +160,8 @@ impl<'a> Profile<'a> {
         requires { (i ≤ j) × (j < points_of self.now) }
         ensures { IsMaskBetween self.now i j result }
     {
+        // A table over pairs of runs answers in constant time, which no caller needs, and takes half of a profile's
+        // time at 100 zones.
         let mut grades = 0;
         let mut from = j;
         while from > i {

@@ -1,13 +1,12 @@
 -- How the line of a run comes about: lists that are cut, and figures that are taken.
 use Rattle.std.specs.Prelude.{◌≡◌, ◌++◌, ℕ, List, [], ◌∷◌, length, slice_get, nat_le, cond, Option, Some, None, Result, Ok, Err, codes}
-use Rattle.std.specs.declared.sync.Arc.{Arc}
 use Rattle.std.specs.declared.vec.Vec.{Vec}
 use Rattle.std.specs.declared.alloc.Global.{Global}
 use Rattle.buck_apt.specs.Instruction.{InstructionParts}
-use Rattle.buck_stem.specs.declared.stem.Stem.{Stem}
 use Rattle.buck_figures.specs.Degrees.{AreDegreesBy}
 use Rattle.buck_figures.specs.declared.degrees.Degrees.{Degrees}
 use Rattle.buck_journal.specs.reading.Journal.{JournalParts}
+use Rattle.buck_turn.specs.Turn.{StemList}
 use Rattle.buck_sweep.specs.declared.combination.Combination.{Combination}
 use Rattle.buck_figures.specs.declared.figures.Figures.{Figures}
 use Rattle.buck_engine.specs.declared.fault.EngineFault.{EngineFault}
@@ -22,7 +21,7 @@ pub record AreAllDegrees (i : InstructionParts) (targets counts : List ℕ) (deg
   pub one_each : length degrees ≡ length i.assortments
   pub each : (a : ℕ) (d : Degrees) → slice_get degrees a ≡ Some d → AreDegreesBy i targets counts a d
 
--- the lesser of two numbers, where there are both
+-- the lesser of two numbers, or the only one
 abbrev pub lesser : Option ℕ → Option ℕ → Option ℕ
 lesser None other = other
 lesser (Some one) None = Some one
@@ -45,20 +44,20 @@ line_by rule f degrees least =
     ++ (cells (apart_of degrees) ++ codes "\n")))))
 
 -- the lines of some combinations, or why there are none
-abbrev pub IsPart : InstructionParts → List (Vec (Arc Stem Global) Global) → List Combination
+abbrev pub IsPart : InstructionParts → List StemList → List Combination
     → Result (Vec ℕ Global) EngineFault → Type 0
 IsPart i lists cs (Ok text) = AreLines (IsRunLine i lists) cs text.items
 IsPart i lists cs (Err fault) = IsStop lists fault
 
 -- the names of the columns, and the lines of combinations whose runs cut these lists by this instruction
-pub record IsTableOf (i : InstructionParts) (lists : List (Vec (Arc Stem Global) Global)) (cs : List Combination)
+pub record IsTableOf (i : InstructionParts) (lists : List StemList) (cs : List Combination)
     (text : List ℕ) : Type 0 where
   pub lines : List ℕ
   pub are_lines : AreLines (IsRunLine i lists) cs lines
   pub text_is : text ≡ head_line i ++ lines
 
 -- their table, or why there is none
-abbrev pub AnswersTable : InstructionParts → List (Vec (Arc Stem Global) Global) → List Combination
+abbrev pub AnswersTable : InstructionParts → List StemList → List Combination
     → Result (List ℕ) EngineFault → Type 0
 AnswersTable i lists cs (Ok text) = IsTableOf i lists cs text
 AnswersTable i lists cs (Err fault) = IsStop lists fault

@@ -51,7 +51,7 @@ IsDrawnPartBy a starts result =
     IfOk result (λ drawn. AreDrawnBy a a.instruction.value starts drawn.items)
     × IfErr result (IsStop a.input.lists.items)
 
--- each wish is told, or why none is
+-- what is known of each wish, or why nothing is
 pub record IsToldOf (a : Asking) (whole : Runs) (wish : Wish) (told : Told) : Type 0 where
   pub wish_is : told.wish ≡ wish
   pub is_told : IsTold a.rule a.instruction.value a.input.lists.items a.starts.items a.unsteered.items whole told

@@ -3,7 +3,7 @@ use Rattle.buck_dp.proofs.PricingLemmas.{row_still, bought_still}
 use Rattle.buck_dp.proofs.pricing.class_at.Goals as goal
 
 pub returns-in_err-row-clause-none : goal.returns-in_err-row-clause-none
-returns-in_err-row-clause-none c = rw c.from_residual-in_err-row.ensures (λ d asked taker p.
+returns-in_err-row-clause-none c = rw c.from_residual-in_err-row.ensures (λ d asked p.
     (rw c.in_err-row.was at c.bought_row.ensures.none)
     ((bought_still c.bought_row.ensures.valid c.requires.band d asked.0 asked.1).0
     (rw (column_is c.args.assortment.now _ _ (sym c.column_of.ensures ∙ c.in_ok-column.was)) at p.1)))
@@ -14,7 +14,6 @@ returns-clause-class c =
     let column = column_is c.args.assortment.now _ _ found in
     let row = c.in_ok-row.ensures in
     record {
-      taker = rw c.from.ensures at (c.contains.ensures.0 c.if-not-contains.false);
       within = c.index.ensures.within;
       index = λ d asked. rw (row_still c.requires.band row.row d asked.0 asked.1, column) (sym c.index.ensures.place);
       priced = λ d asked. (

@@ -13,5 +13,5 @@ pub loop-place-preserved : goal.loop-place-preserved
 loop-place-preserved c =
     rw (c.in_ok-push.ensures.items, c.point_from.ensures, c.price_kind.ensures)
     (rw (c.module-module.ensures.module, c.trim-trim.ensures.trim)
-    (term_put c.requires.offers c.loop-place-test.true c.loop-place.invariant _ c.assortment_of-assortment.ensures.own _
-    c.in-Some.ensures.class))
+    (term_put c.requires.offers c.loop-place-test.true c.loop-place.invariant _ c.assortment_of-assortment.ensures.own
+    c.assortment_of-assortment.ensures.few _ c.in-Some.ensures.class))

@@ -6,7 +6,7 @@ use Rattle.buck_ledger.specs.Serving.{AnswersCompare}
 use Rattle.buck_ledger.proofs.serving.serve_compare.Goals as goal
 
 pub run_compare-requires-clause-two : goal.run_compare-requires-clause-two
-run_compare-requires-clause-two g c κs within =
+run_compare-requires-clause-two g c =
     let many = as_many g.O.Open.opens _ _ _ _ c.in_ok-apt.ensures.others in
     let named = length-map c.args.task.now.journals (λ s. s.now) in
     let two : length c.args.task.now.journals ≡ 2 = search rules in

@@ -1,5 +1,4 @@
-use Rattle.std.proofs.Common.{rules, arith, inl, inr}
-use Rattle.buck_book.specs.Pricing.{AreAnswers}
+use Rattle.buck_live.proofs.Words.{rules, arith, inl, inr, AreAnswers}
 use Rattle.buck_live.proofs.AnswerLemmas.{cut_as_previewed}
 use Rattle.buck_live.proofs.answering.cut.Goals as goal
 

@@ -1,41 +1,49 @@
-use Rattle.std.proofs.Common.{rules, refl, inl}
-use Rattle.std.proofs.KnownBytes.{Keeps-refl}
-use Rattle.buck_cutter.proofs.Adding.{both_stay}
-use Rattle.buck_live.proofs.RunLemmas.{ended, stepped, stopped, unread}
+use Rattle.buck_live.proofs.Words.{rules, Ok, Err, Read}
+use Rattle.buck_live.proofs.RunLemmas.{ended, stepped, unread, unsaid}
 use Rattle.buck_live.proofs.live.answer_all.Goals as goal
+
+pub returns-in_default-clause-run : goal.returns-in_default-clause-run
+returns-in_default-clause-run g c =
+    c.requests.invariant.on (Err (Read 1)) c.requests.cutter.history (g.W.Write.contents c.requests.out)
+    (unread c.requests.cutter.history (g.R.Read.remaining c.requests.input) (g.W.Write.contents c.requests.out))
 
 pub returns-in-Err-clause-run : goal.returns-in-Err-clause-run
 returns-in-Err-clause-run g c =
-    stopped _ _ _ _ (g.R.Read.remaining c.requests.input) (g.R.Read.remaining c.answer_next.new.input) _ _ _ _
-    c.requests.invariant.at c.in-Err.ensures.step
+    c.requests.invariant.on (Err c.in-Err.fault) c.answer-answer.new.cutter.history (g.W.Write.contents c.say.new.out)
+    (unsaid c.requests.cutter.history c.answer-answer.new.cutter.history (g.R.Read.remaining c.requests.input)
+    (g.R.Read.remaining c.read_bytes.new.input) (g.W.Write.contents c.requests.out) (g.W.Write.contents c.say.new.out)
+    _ _ c.in-Ok.end _ c.in-Ok.ensures.read
+    (rw c.as_slice-held.ensures.value at c.answer-answer.ensures.answered) c.in-Err.ensures)
 
 pub returns-in-Err-clause-given : goal.returns-in-Err-clause-given
-returns-in-Err-clause-given g c =
-    both_stay g.F.Fn c.args.cutter.now c.requests.cutter c.answer_next.new.cutter c.requests.invariant.given c.in-Err.ensures.given
+returns-in-Err-clause-given g c = λ by. c.answer-answer.ensures.given (c.requests.invariant.given by)
 
-pub returns-in-Ok-Input-clause-given : goal.returns-in-Ok-Input-clause-given
-returns-in-Ok-Input-clause-given g c =
-    both_stay g.F.Fn c.args.cutter.now c.requests.cutter c.answer_next.new.cutter c.requests.invariant.given (search rules)
+pub returns-in-Input-clause-given : goal.returns-in-Input-clause-given
+returns-in-Input-clause-given g c = λ by. c.answer-answer.ensures.given (c.requests.invariant.given by)
 
-pub returns-in-Ok-Input-clause-run : goal.returns-in-Ok-Input-clause-run
-returns-in-Ok-Input-clause-run g c =
-    ended _ _ c.answer_next.new.cutter.history _ (g.R.Read.remaining c.requests.input)
-    (g.R.Read.remaining c.answer_next.new.input)
-    _ (g.W.Write.contents c.requests.out) (g.W.Write.contents c.answer_next.new.out) c.requests.invariant.at
-    (search rules)
+pub returns-in-Input-clause-run : goal.returns-in-Input-clause-run
+returns-in-Input-clause-run g c =
+    c.requests.invariant.on (Ok tt) c.answer-answer.new.cutter.history (g.W.Write.contents c.say.new.out)
+    (ended c.requests.cutter.history c.answer-answer.new.cutter.history (g.R.Read.remaining c.requests.input)
+    (g.R.Read.remaining c.read_bytes.new.input) (g.W.Write.contents c.requests.out) (g.W.Write.contents c.say.new.out)
+    _ _ (rw c.in-Input.is at c.in-Ok.ensures.read)
+    (rw (c.as_slice-held.ensures.value, c.in-Input.is) at c.answer-answer.ensures.answered) c.in-Ok-say.ensures)
 
 pub requests-preserved : goal.requests-preserved
 requests-preserved g c = record {
   rule = search rules;
   capacity = search rules;
   room = search rules;
-  given = both_stay g.F.Fn c.args.cutter.now c.requests.cutter c.answer_next.new.cutter c.requests.invariant.given (search rules);
-  at = stepped _ _ c.answer_next.new.cutter.history _ (g.R.Read.remaining c.requests.input)
-      (g.R.Read.remaining c.answer_next.new.input)
-      _ (g.W.Write.contents c.requests.out) (g.W.Write.contents c.answer_next.new.out) c.requests.invariant.at
-      (search rules);
+  given = λ by. c.answer-answer.ensures.given (c.requests.invariant.given by);
+  on = λ outcome after last run. c.requests.invariant.on outcome after last
+      (stepped c.requests.cutter.history c.answer-answer.new.cutter.history after
+      (g.R.Read.remaining c.requests.input) (g.R.Read.remaining c.read_bytes.new.input)
+      (g.W.Write.contents c.requests.out) (g.W.Write.contents c.say.new.out) last _ _ outcome
+      (rw c.in-Feed.is at c.in-Ok.ensures.read)
+      (rw (c.as_slice-held.ensures.value, c.in-Feed.is) at c.answer-answer.ensures.answered) c.in-Ok-say.ensures run);
 }
 
 pub returns-clause-run : goal.returns-clause-run
 returns-clause-run g c =
-    inl (refl, unread _ _ _ (g.R.Read.remaining c.requests.input) _ _ _ c.requests.invariant.at (Keeps-refl _))
+    c.requests.invariant.on (Err (Read 1)) c.requests.cutter.history (g.W.Write.contents c.requests.out)
+    (unread c.requests.cutter.history (g.R.Read.remaining c.requests.input) (g.W.Write.contents c.requests.out))

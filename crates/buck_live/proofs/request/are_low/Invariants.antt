@@ -1,5 +1,4 @@
-use Rattle.std.proofs.Common.{◌≡◌, drop}
-use Rattle.buck_live.specs.Request.{are_low, in_turn}
+use Rattle.buck_live.proofs.Words.{◌≡◌, drop, are_low, in_turn}
 use Rattle.buck_live.proofs.request.are_low.Given as goal
 
 abbrev pub invariant-loop-number : goal.invariant-loop-number

@@ -1,6 +1,5 @@
-use Rattle.std.proofs.Common.{◌≡◌, ◌*◌, ◌+◌, arith}
+use Rattle.buck_live.proofs.Words.{◌≡◌, ◌*◌, ◌+◌, arith, next_log}
 use Rattle.std.proofs.lemmas.Grind.{common_steps}
-use Rattle.buck_journal.proofs.Tuples.{next_log}
 use Rattle.buck_live.proofs.OwnLemmas.{all_taken, low_at}
 use Rattle.buck_live.proofs.request.logs_of.Goals as goal
 

@@ -1,6 +1,4 @@
-use Rattle.std.proofs.Common.{◌≡◌, ◌*◌, ◌++◌, drop, true}
-use Rattle.buck_journal.specs.reading.Journal.{logs_of}
-use Rattle.buck_live.specs.Request.{are_low}
+use Rattle.buck_live.proofs.Words.{◌≡◌, ◌*◌, ◌++◌, drop, true, logs_of, are_low}
 use Rattle.buck_live.proofs.request.logs_of.Given as goal
 
 abbrev pub invariant-loop-k : goal.invariant-loop-k

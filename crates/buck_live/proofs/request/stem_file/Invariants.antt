@@ -1,7 +1,4 @@
-use Rattle.std.proofs.Common.{◌≡◌, ◌++◌, take}
-use Rattle.std.specs.List.{flat_map}
-use Rattle.std.specs.Prelude.{codes}
-use Rattle.buck_live.specs.Request.{stem_text}
+use Rattle.buck_live.proofs.Words.{◌≡◌, ◌++◌, take, flat_map, codes, stem_text}
 use Rattle.buck_live.proofs.request.stem_file.Given as goal
 
 abbrev pub invariant-loop-item : goal.invariant-loop-item

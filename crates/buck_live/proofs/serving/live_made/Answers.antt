@@ -1,25 +1,21 @@
-use Rattle.std.proofs.Common.{rules, ◌≡◌, [], inl, inr, refl, ap, subst}
-use Rattle.std.proofs.KnownBytes.{Keeps-refl}
-use Rattle.buck_book.specs.History.{HistoryParts}
-use Rattle.buck_engine.specs.tie.Ties.{FollowsRule}
-use Rattle.buck_engine.proofs.Served.{made_so, nothing_made}
-use Rattle.buck_live.specs.Live.{IsLiveRun}
-use Rattle.buck_live.specs.Serving.{KeepsJournal}
-use Rattle.buck_live.specs.inner.Served.{RanOrNot}
-use Rattle.buck_live.proofs.ServedLemmas.{not_opened, stayed}
+use Rattle.buck_live.proofs.Words.{rules, ◌≡◌, ◌∙◌, [], inl, inr, refl, ap, HistoryParts, AnswersLive, KeepsJournal}
+use Rattle.buck_book.proofs.Given.{none_given}
+use Rattle.buck_engine.proofs.Ruled.{follows_rule}
+use Rattle.buck_engine.proofs.Served.{made_so}
+use Rattle.buck_live.proofs.ServedLemmas.{unopened}
 use Rattle.buck_live.proofs.serving.live_made.Goals as goal
+
+pub returns-in_err-read_instruction : goal.returns-in_err-read_instruction
+returns-in_err-read_instruction g c =
+    unopened g.J.Write.contents c.args.journal c.args.task.now (g.A.Read.remaining c.args.apt.now)
+    (g.R.Read.remaining c.args.input.now) _ (g.W.Write.contents c.args.out.now) c.in_err-read_instruction.field-0.0 _
+    c.from_residual.ensures.1 c.in_err-read_instruction.ensures.refused refl
 
 pub returns-in_err-live : goal.returns-in_err-live
 returns-in_err-live g c =
-    let out = g.W.Write.contents c.args.out.now in
-    nothing_made g.J.Write.contents c.args.journal
-    (λ o. RanOrNot (FollowsRule c.args.named) c.args.instruction (g.R.Read.remaining c.args.input.now) _ o out out _)
-    (λ o kept. inl (
-      not_opened _ c.in_err-live.field-0.0 c.from_residual.ensures.1 c.in_err-live.ensures.refused,
-      refl,
-      kept,
-      Keeps-refl out,
-    ))
+    unopened g.J.Write.contents c.args.journal c.args.task.now (g.A.Read.remaining c.args.apt.now)
+    (g.R.Read.remaining c.args.input.now) _ (g.W.Write.contents c.args.out.now) c.in_err-live.field-0.0 _
+    c.from_residual-in_err-live.ensures.1 (inr (inl c.in_err-live.ensures.refused)) refl
 
 pub returns : goal.returns
 returns g c =
@@ -28,18 +24,24 @@ returns g c =
     let none : live.history.postings ≡ [] = ap (λ (h : HistoryParts). h.postings) opened.history in
     let after = c.run-ran.new.self in
     let run = c.run-ran.ensures in
+    let apt = g.A.Read.remaining c.args.apt.now in
     let input = g.R.Read.remaining c.args.input.now in
     let old = g.W.Write.contents c.args.out.now in
     let new = g.W.Write.contents c.run-ran.new.out in
     made_so g.J.Write.contents c.args.journal (λ o. KeepsJournal o after.history c.keep_journal-kept.result)
-    (λ o. RanOrNot (FollowsRule c.args.named) c.args.instruction input _ o old new _)
+    (λ o. AnswersLive c.args.task.now apt input _ o old new _)
     (λ o kept. inr (record {
-      history = after.history;
-      lawful = run.kept.lawful;
-      by_rule = stayed _ _ live after c.args.named opened.rule run.rule none run.given run.kept.lawful (search rules);
-      ran = c.run-ran.result;
-      kept = c.keep_journal-kept.result;
-      run = subst (λ (s : HistoryParts). IsLiveRun s input old new c.run-ran.result after.history) opened.history run.run;
-      journal = kept;
-      outcome_is = c.first_fault.ensures;
+      own = c.in_ok-read_instruction.field-0;
+      apt_says = c.in_ok-read_instruction.ensures.ok;
+      live = record {
+        history = after.history;
+        lawful = run.kept.lawful;
+        by_rule = follows_rule _ _ c.args.task.now.rule after.history (search rules) run.kept.lawful
+            (rw (run.rule ∙ opened.rule) at run.given (none_given _ live.rule live.history none));
+        ran = c.run-ran.result;
+        kept = c.keep_journal-kept.result;
+        run = (rw (opened.history, c.with-instruction.ensures) at run.run);
+        journal = kept;
+        outcome_is = c.and.ensures;
+      };
     })) c.keep_journal-kept.ensures

@@ -1,11 +1,11 @@
-use Rattle.std.proofs.Common.{◌≡◌, ◌<◌, ℕ, take, length, slice_index}
+use Rattle.std.proofs.Common.{◌≡◌, ◌<◌, ℕ, length, slice_index}
 use Rattle.buck_stem.specs.Stem.{least_to}
-use Rattle.buck_stem.specs.inner.Lows.{IsLeastBefore}
+use Rattle.buck_stem.proofs.Lows.{IsLow}
 use Rattle.buck_stem.proofs.stem.put_lows.Given as goal
 
 abbrev pub invariant-loop-i : goal.invariant-loop-i
 invariant-loop-i l = record {
   number : length l.places ≡ length l.samples;
-  low : IsLeastBefore (take l.i l.samples) l.low;
+  low : IsLow l.samples l.i l.low;
   each : (k : ℕ) → k < l.i → slice_index l.places k ≡ least_to l.samples k;
 }

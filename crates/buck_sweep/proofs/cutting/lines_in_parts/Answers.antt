@@ -1,10 +1,5 @@
-use Rattle.std.proofs.Common.{◌*◌, ◌≤◌, ◌++◌, ◌∙◌, ℕ, List, length, zero-mul, refl, subst, sym, ap, arith}
+use Rattle.buck_sweep.proofs.Words.{◌*◌, ◌≤◌, ◌++◌, ◌∙◌, ℕ, length, zero-mul, refl, subst, sym, ap, arith, take_all, IsPart}
 use Rattle.std.proofs.lemmas.Grind.{div_ceil_times}
-use Rattle.std.proofs.lemmas.List.{take_all}
-use Rattle.buck_sweep.specs.declared.combination.Combination.{Combination}
-use Rattle.buck_sweep.specs.Sweep.{AreLines}
-use Rattle.buck_sweep.specs.Runs.{IsRunLine}
-use Rattle.buck_sweep.specs.inner.Lines.{IsPart}
 use Rattle.buck_sweep.proofs.Tables.{part_put}
 use Rattle.buck_sweep.proofs.cutting.lines_in_parts.Goals as goal
 
@@ -34,5 +29,4 @@ returns g c =
     subst (λ (n : ℕ). length c.args.combinations.now ≤ n * c.args.size)
     (sym (c.in_ok-parts.ensures.len) ∙ omega (arith, c.loop-k-test.false))
     (div_ceil_times (length c.args.combinations.now) c.args.size c.requires.size).0 in
-    subst (λ (cs : List Combination). AreLines (IsRunLine c.args.input.now.instruction c.args.input.now.lists.items)
-    cs c.loop-k.text.items) (take_all _ _ all) c.loop-k.invariant
+    (rw (take_all _ c.args.combinations.now all) at c.loop-k.invariant)

@@ -1,6 +1,4 @@
-use Rattle.std.proofs.Common.{◌*◌, take}
-use Rattle.buck_sweep.specs.Sweep.{AreLines}
-use Rattle.buck_sweep.specs.Runs.{IsRunLine}
+use Rattle.buck_sweep.proofs.Words.{◌*◌, take, AreLines, IsRunLine}
 use Rattle.buck_sweep.proofs.cutting.lines_in_parts.Given as goal
 
 abbrev pub invariant-loop-k : goal.invariant-loop-k

@@ -1,5 +1,4 @@
-use Rattle.std.proofs.Common.{◌++◌, ◌∙◌, ap}
-use Rattle.buck_sweep.specs.Runs.{IsRunLine}
+use Rattle.buck_sweep.proofs.Words.{◌++◌, ◌∙◌, ap, IsRunLine}
 use Rattle.buck_sweep.proofs.Tables.{lines_taken}
 use Rattle.buck_sweep.proofs.cutting.lines_of.Goals as goal
 

@@ -1,7 +1,5 @@
-use Rattle.std.proofs.Common.{◌≡◌, [], ◌∷◌, ◌++◌, length, inl, inr, ap, sym, subst, ◌∙◌, arith, length-append}
-use Rattle.std.specs.Prelude.{slice_get}
+use Rattle.buck_sweep.proofs.Words.{◌≡◌, [], ◌∷◌, ◌++◌, length, inl, inr, ap, sym, ◌∙◌, arith, length-append, slice_get}
 use Rattle.buck_book.proofs.Extend.{slice_get-push}
-use Rattle.buck_figures.specs.Degrees.{AreDegreesBy}
 use Rattle.buck_sweep.proofs.figures.degrees_of.Goals as goal
 
 pub loop-at-preserved : goal.loop-at-preserved
@@ -13,9 +11,6 @@ loop-at-preserved c =
       number = ap length is ∙ length-append before (one ∷ []) ∙ omega (arith, c.loop-at.invariant.number);
       each = λ a d there. elim (slice_get-push before one d a (ap (λ l. slice_get l a) (sym is) ∙ there)) [
         | inl h ↦ c.loop-at.invariant.each a d h.1
-        | inr h ↦
-            subst (λ x. AreDegreesBy c.args.instruction.now c.args.targets.now c.args.counts.now a x) (sym h.1)
-            (subst (λ k. AreDegreesBy c.args.instruction.now c.args.targets.now c.args.counts.now k one)
-            (sym (h.0 ∙ c.loop-at.invariant.number)) c.degrees_at.ensures)
+        | inr h ↦ rw (h.1, h.0 ∙ c.loop-at.invariant.number) c.degrees_at.ensures
       ];
     }

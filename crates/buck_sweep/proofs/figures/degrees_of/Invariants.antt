@@ -1,7 +1,4 @@
-use Rattle.std.proofs.Common.{◌≡◌, ℕ, length}
-use Rattle.std.specs.Prelude.{slice_get, Some}
-use Rattle.buck_figures.specs.Degrees.{AreDegreesBy}
-use Rattle.buck_figures.specs.declared.degrees.Degrees.{Degrees}
+use Rattle.buck_sweep.proofs.Words.{◌≡◌, ℕ, length, slice_get, Some, AreDegreesBy, Degrees}
 use Rattle.buck_sweep.proofs.figures.degrees_of.Given as goal
 
 abbrev pub invariant-loop-at : goal.invariant-loop-at

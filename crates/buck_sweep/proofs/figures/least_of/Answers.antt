@@ -1,5 +1,4 @@
-use Rattle.std.proofs.Common.{ap, ◌∙◌}
-use Rattle.buck_sweep.specs.inner.Lines.{lesser}
+use Rattle.buck_sweep.proofs.Words.{ap, ◌∙◌, lesser}
 use Rattle.buck_sweep.proofs.Lesser.{least_taken}
 use Rattle.buck_sweep.proofs.figures.least_of.Goals as goal
 

@@ -1,5 +1,4 @@
-use Rattle.std.proofs.Common.{take}
-use Rattle.buck_sweep.specs.Table.{IsLeast, wholes_of}
+use Rattle.buck_sweep.proofs.Words.{take, IsLeast, wholes_of}
 use Rattle.buck_sweep.proofs.figures.least_of.Given as goal
 
 abbrev pub invariant-loop-degree : goal.invariant-loop-degree

@@ -1,5 +1,4 @@
-use Rattle.std.proofs.Common.{◌≡◌, ◌++◌, drop}
-use Rattle.buck_sweep.specs.Table.{apart_of, cells}
+use Rattle.buck_sweep.proofs.Words.{◌≡◌, ◌++◌, drop, apart_of, cells}
 use Rattle.buck_sweep.proofs.figures.put_apart.Given as goal
 
 abbrev pub invariant-loop-degree : goal.invariant-loop-degree

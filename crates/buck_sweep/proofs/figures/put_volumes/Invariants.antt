@@ -1,5 +1,4 @@
-use Rattle.std.proofs.Common.{◌≡◌, ◌++◌, drop}
-use Rattle.buck_sweep.specs.Table.{cells, volumes_of}
+use Rattle.buck_sweep.proofs.Words.{◌≡◌, ◌++◌, drop, cells, volumes_of}
 use Rattle.buck_sweep.proofs.figures.put_volumes.Given as goal
 
 abbrev pub invariant-loop-at : goal.invariant-loop-at

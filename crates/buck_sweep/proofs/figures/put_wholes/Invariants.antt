@@ -1,5 +1,4 @@
-use Rattle.std.proofs.Common.{◌≡◌, ◌++◌, drop}
-use Rattle.buck_sweep.specs.Table.{cells, wholes_of}
+use Rattle.buck_sweep.proofs.Words.{◌≡◌, ◌++◌, drop, cells, wholes_of}
 use Rattle.buck_sweep.proofs.figures.put_wholes.Given as goal
 
 abbrev pub invariant-loop-degree : goal.invariant-loop-degree

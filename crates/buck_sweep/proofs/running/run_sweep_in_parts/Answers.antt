@@ -1,6 +1,4 @@
-use Rattle.std.proofs.Common.{map, sym}
-use Rattle.std.proofs.lemmas.List.{length-map}
-use Rattle.buck_engine.proofs.Served.{of_files}
+use Rattle.buck_sweep.proofs.Words.{map, sym, length-map, of_files}
 use Rattle.buck_sweep.proofs.Sweeps.{not_swept, swept}
 use Rattle.buck_sweep.proofs.running.run_sweep_in_parts.Goals as goal
 

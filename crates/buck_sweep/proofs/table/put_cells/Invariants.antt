@@ -1,5 +1,4 @@
-use Rattle.std.proofs.Common.{◌≡◌, ◌++◌, take}
-use Rattle.buck_sweep.specs.Table.{cells}
+use Rattle.buck_sweep.proofs.Words.{◌≡◌, ◌++◌, take, cells}
 use Rattle.buck_sweep.proofs.table.put_cells.Given as goal
 
 abbrev pub invariant-loop-number : goal.invariant-loop-number

@@ -11,6 +11,7 @@ pieces old f g h i j k a b c d e new is_a is_b is_c is_d is_e is_new =
 pub returns : goal.returns
 unfolding head_line
 returns c =
-    pieces _ _ _ _ _ _ _ _ _ _ _ _ _ c.in_ok-extend_from_slice.ensures.items c.in_ok-put_degree_heads.ensures
-    c.in_ok-extend_from_slice-2.ensures.items c.in_ok-put_pair_heads.ensures c.in_ok-put_pair_heads-2.ensures
-    c.in_ok-push.ensures.items
+    let all = c.assortments-all.ensures.items in
+    pieces _ _ _ _ _ _ _ _ _ _ _ _ _ c.in_ok-extend_from_slice.ensures.items
+    (rw all at c.in_ok-put_degree_heads.ensures) c.in_ok-extend_from_slice-2.ensures.items
+    (rw all at c.in_ok-put_pair_heads.ensures) (rw all at c.in_ok-put_pair_heads-2.ensures) c.in_ok-push.ensures.items

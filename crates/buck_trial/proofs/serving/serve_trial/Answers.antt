@@ -25,5 +25,5 @@ returns g c =
     (held_with held files.targets)) c.args.opener.now c.open_files.new.opener task.apt.now
     (map (λ s. s.now) c.as_slice-stms.result.now) (map (λ s. s.now) task.stms.items)
     (option_map (λ s. s.now) task.targets) (g.W.Write.contents c.args.out.now) _ c.in_ok-files.files
-    c.run_trial.result (ap (λ l. map (λ s. s.now) l) c.as_slice-stms.ensures.value) c.in_ok-files.ensures
-    c.run_trial.ensures
+    c.run_trial_in_parts.result (ap (λ l. map (λ s. s.now) l) c.as_slice-stms.ensures.value) c.in_ok-files.ensures
+    c.run_trial_in_parts.ensures

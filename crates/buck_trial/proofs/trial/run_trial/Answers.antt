@@ -22,10 +22,10 @@ returns g c =
     files_run (AnswersTrial c.args.task.now.combinations.items c.args.task.now.draws apt stms targets)
     (IsTrialOver input.instruction input.lists.items c.args.task.now.combinations.items
     (starts_of c.args.task.now.draws input.lists.items)) apt stms targets input.instruction input.lists.items
-    (g.W.Write.contents c.args.out.now) _ c.write_trial.result _ c.of_run.ensures c.in_ok-input.ensures.says
+    (g.W.Write.contents c.args.out.now) _ c.write_one_by_one.result _ c.of_run.ensures c.in_ok-input.ensures.says
     (λ text over. record {
       instruction = input.instruction;
       lists = input.lists.items;
       says = c.in_ok-input.ensures.says;
       is_trial = over;
-    }) (λ e is. is) c.write_trial.ensures
+    }) (λ e is. is) c.write_one_by_one.ensures

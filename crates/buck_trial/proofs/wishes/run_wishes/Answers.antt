@@ -26,10 +26,10 @@ returns g c =
     files_run (AnswersWishes task.rule task.settings task.draws apt stms targets)
     (AreWishes task.rule (with_settings task.settings input.instruction) input.lists.items
     (starts_of task.draws input.lists.items)) apt stms targets input.instruction input.lists.items
-    (g.W.Write.contents c.args.out.now) _ c.write_wishes.result _ c.of_run.ensures c.in_ok-input.ensures.says
+    (g.W.Write.contents c.args.out.now) _ c.write_one_by_one.result _ c.of_run.ensures c.in_ok-input.ensures.says
     (λ text are. record {
       own = input.instruction;
       lists = input.lists.items;
       says = c.in_ok-input.ensures.says;
       are_wishes = are;
-    }) (λ e is. is) c.write_wishes.ensures
+    }) (λ e is. is) c.write_one_by_one.ensures

@@ -1,15 +1,23 @@
-use Rattle.std.proofs.Common.{rules}
-use Rattle.buck_turn.proofs.Counted.{cut_all}
-use Rattle.buck_turn.proofs.Rounds.{all_cut}
-use Rattle.buck_turn.proofs.Taking.{opened}
+use Rattle.std.proofs.Common.{rules, ◌≡◌, [], ap, ◌∙◌, sym, subst}
+use Rattle.buck_book.specs.History.{HistoryParts}
+use Rattle.buck_book.proofs.Given.{none_given}
+use Rattle.buck_turn.specs.inner.Rounds.{HasCutRounds}
+use Rattle.buck_turn.proofs.Rounds.{all_cut, cut_all, nothing_cut}
 use Rattle.buck_turn.proofs.turns.cut_in_turn.Goals as goal
 
 pub loop-round-init : goal.loop-round-init
-loop-round-init g c = record {
-  rule = search rules;
-  instruction = search rules;
-  at = opened g.F.Fn c.args.lists.now _ _ c.in_ok-cutter.ensures.history c.in_ok-cutter.ensures.capacity;
-}
+loop-round-init g c =
+    let none : c.in_ok-cutter.cutter.history.postings ≡ [] =
+    ap (λ (h : HistoryParts). h.postings) c.in_ok-cutter.ensures.history in
+    record {
+      rule = search rules;
+      instruction = search rules;
+      at = record {
+        capacity = search rules;
+        given = none_given g.F.Fn _ _ none;
+        cut = subst (HasCutRounds 0 0 c.args.lists.now) (sym none) (nothing_cut c.args.lists.now);
+      };
+    }
 
 pub returns-clause-cut : goal.returns-clause-cut
 returns-clause-cut g c =
@@ -20,4 +28,4 @@ returns-clause-cut g c =
 pub returns-clause-number : goal.returns-clause-number
 returns-clause-number g c =
     rw c.into_book.ensures
-    (cut_all c.loop-round.round c.args.lists.now _ (search rules) c.loop-round.invariant.at.cut)
+    (c.loop-round.invariant.at.cut.number ∙ cut_all c.loop-round.round c.args.lists.now (search rules))

@@ -1,8 +1,5 @@
-use Rattle.std.proofs.Common.{◌<◌, ◌≤◌, ℕ, length}
-use Rattle.buck_book.specs.Replies.{stems_at}
+use Rattle.std.proofs.Common.{◌≤◌, All, length, take}
 use Rattle.buck_turn.proofs.turns.longest.Given as goal
 
-abbrev pub invariant-loop-k : goal.invariant-loop-k
-invariant-loop-k l = record {
-  most : (j : ℕ) → j < l.k → length (stems_at l.lists j) ≤ l.most;
-}
+abbrev pub invariant-loop-list : goal.invariant-loop-list
+invariant-loop-list l = All (λ list. length list.items ≤ l.most) (take l.list-index l.lists)

@@ -6,9 +6,10 @@ pub prove-unreachable-requires : goal.prove-unreachable-requires
 prove-unreachable-requires c =
     let ran = c.buckfleet_in_turn-status in
     let right = c.in-Some-get.right.now in
-    let both : c.in-Some.long ≡ c.buckfleet_in_turn-status.new.texts.journal + c.buckfleet_in_turn-status.new.texts.report =
+    let texts = c.buckfleet_in_turn-status.new.texts in
+    let both : c.in-Some.long ≡ texts.journal + texts.report =
     search rules in
     let taken : right ≡ take c.in-Some.long c.buckfleet_in_turn-status.new.out = search rules in
     let same : right ≡ c.args.wrong.now = search rules in
-    another_rule _ _ _ _ right c.args.wrong.now c.buckfleet_in_turn-status.new.texts _ c.in-Some.long ran.ensures
+    another_rule _ _ _ _ right c.args.wrong.now texts _ c.in-Some.long ran.ensures
     c.if-status-eq0.true both taken c.requires.other same

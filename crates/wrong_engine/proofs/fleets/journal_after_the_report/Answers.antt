@@ -1,4 +1,4 @@
--- Where something of the report is written, the whole journal is.
+-- If something of the report is written, the whole journal is.
 use Rattle.std.proofs.Common.{rules, ◌≡◌, length}
 use mathlib.Core.Logic.{inl, inr}
 use Rattle.buck_engine.specs.declared.fault.EngineFault.TheVariants.{Write}

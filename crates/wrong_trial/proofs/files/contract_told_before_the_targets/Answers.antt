@@ -12,7 +12,7 @@ use Rattle.buck_trial.specs.Inputs.{IsInputFault}
 use Rattle.buck_trial.specs.Owned.{AnswersOwned, IsOwnStop}
 use Rattle.wrong_trial.proofs.files.contract_told_before_the_targets.Goals as goal
 
--- a contract isn't, where the file of targets is refused
+-- a contract isn't, if the file of targets is refused
 contract_not_told : (cs : List Combination) (draws : Option Draws) (apt : List ℕ) (stms : List (Option (List ℕ)))
     (targets : List ℕ) (number : ℕ) (own : Option (List ℕ) × ℕ) (old new : Option (List ℕ))
     (r : Result (Unit {0}) TermsFault) (why : OwnFault)

@@ -9,6 +9,6 @@ prove-unreachable-requires g c =
     let files = c.in-Some.ensures in
     let run = rw files.own at c.run_appraise-outcome.ensures in
     let same : c.run_appraise-outcome.result ≡ Err (Run (Replay c.in-Err-Run-Replay._why)) = search rules in
-    owner_first c.args.task.now (Some c.in-Some.files.apt.now) _ c.args.own.now c.in-Some.files.own.1
+    owner_first c.args.task.now.settings (Some c.in-Some.files.apt.now) _ c.args.own.now c.in-Some.files.own.1
     (Some c.args.out.now.items) (Some c.run_appraise-outcome.new.out.items) c.run_appraise-outcome.result
     c.in-Err-Run-Replay._why run same c.requires.refused

@@ -6,7 +6,7 @@ use Rattle.wrong_trial.proofs.trials.targets_told_before_a_stem_file.Goals as go
 pub prove-unreachable-requires : goal.prove-unreachable-requires
 prove-unreachable-requires g c =
     let files = c.in-Some.ensures in
-    let run = rw (files.apt, files.stms, files.targets) at c.run_trial-outcome.ensures in
-    let same : c.run_trial-outcome.result ≡ Err (Targets c.in-Err-Targets._why) = search rules in
-    targets_not_told _ _ _ _ _ (Some c.args.out.now.items) (Some c.run_trial-outcome.new.out.items) _
+    let run = rw (files.apt, files.stms, files.targets) at c.run_trial_in_parts-outcome.ensures in
+    let same : c.run_trial_in_parts-outcome.result ≡ Err (Targets c.in-Err-Targets._why) = search rules in
+    targets_not_told _ _ _ _ _ (Some c.args.out.now.items) (Some c.run_trial_in_parts-outcome.new.out.items) _
     c.in-Err-Targets._why run same c.requires.refused

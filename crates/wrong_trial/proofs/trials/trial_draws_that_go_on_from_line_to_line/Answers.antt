@@ -8,8 +8,8 @@ use Rattle.wrong_trial.proofs.trials.trial_draws_that_go_on_from_line_to_line.Go
 
 pub prove-unreachable-requires : goal.prove-unreachable-requires
 prove-unreachable-requires g c =
-    let same : c.run_trial-outcome.new.out.items ≡ c.args.wrong.now = search rules in
+    let same : c.run_trial_in_parts-outcome.new.out.items ≡ c.args.wrong.now = search rules in
     let there : slice_get c.args.task.now.combinations.items 1 ≡ Some (own_run Step) =
     ap (λ (l : List Combination). slice_get l 1) c.requires.runs in
-    without_draws _ _ _ _ _ _ _ _ _ _ 1 (own_run Step) c.run_trial-outcome.ensures c.new-right.ensures.items
+    without_draws _ _ _ _ _ _ _ _ _ _ 1 (own_run Step) c.run_trial_in_parts-outcome.ensures c.new-right.ensures.items
     c.in-Ok.is there c.requires.other same

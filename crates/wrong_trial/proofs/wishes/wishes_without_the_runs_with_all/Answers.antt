@@ -4,6 +4,6 @@ use Rattle.wrong_trial.proofs.wishes.wishes_without_the_runs_with_all.Goals as g
 
 pub prove-unreachable-requires : goal.prove-unreachable-requires
 prove-unreachable-requires g c =
-    let same : c.run_wishes-outcome.new.out.items ≡ c.args.wrong.now = search rules in
-    without_whole _ _ _ _ _ _ _ _ _ _ _ c.run_wishes-outcome.ensures c.new-right.ensures.items c.in-Ok.is
+    let same : c.run_wishes_in_parts-outcome.new.out.items ≡ c.args.wrong.now = search rules in
+    without_whole _ _ _ _ _ _ _ _ _ _ _ c.run_wishes_in_parts-outcome.ensures c.new-right.ensures.items c.in-Ok.is
     c.requires.other same

@@ -19,6 +19,6 @@ invariant_of-self g c =
       ap (λ (x : ReadyParts). x.next) c.ready.view_is,
     )
     (keeps_more _ _ _ _ _ (λ h. Cut (entry_of h c.args.harvester p)) _ _ _ c.self.invariant ready.to_add.below
-    c.requires.harvester (entry_follows _ c.args.harvester p c.plan.invariant ready.sheet_in_force)
+    c.requires.harvester (entry_follows _ c.args.harvester p c.plan.invariant.0 ready.sheet_in_force)
     (ready.to_add.next_is c.args.harvester)
     (entry_after _ c.args.harvester p _ _ ready.sheet_in_force (rw (sym c.plan.view_is) at c.after_plan.ensures)))

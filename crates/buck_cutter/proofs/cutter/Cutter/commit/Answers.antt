@@ -5,12 +5,14 @@ use Rattle.buck_cutter.proofs.cutter.Cutter.commit.Goals as goal
 
 pub returns-clause-cut : goal.returns-clause-cut
 returns-clause-cut g c =
+    let ready = c.in_ok-ready.ensures in
+    let same = ready.content.history in
     rw (sym c.self.view_is)
-    (has_cut g.F.Fn c.self.inside.book c.prepare_in_force.new.self c.commit.new.self c.args.harvester c.args.plan
-    c.in_ok-ready.ready c.commit.result c.requires.harvester c.worth-best.ensures.best
-    (rw (sym c.self.view_is) at c.requires.in_force) c.in_ok-ready.ensures.content c.in_ok-ready.ensures.ready
-    c.in_ok-ready.ensures.given c.commit.ensures.entry c.commit.ensures.instruction c.commit.ensures.sheets
-    c.commit.ensures.postings)
+    (has_cut g.F.Fn c.self.inside.book.rule c.self.inside.book.history c.commit.new.self.history c.args.harvester
+    c.args.plan c.in_ok-ready.ready.next c.commit.result c.requires.harvester c.worth-best.ensures.best
+    (rw (sym c.self.view_is) at c.requires.in_force) (rw same at ready.ready.to_add.next_is c.args.harvester)
+    ready.given (rw same at c.commit.ensures.entry) (rw same at c.commit.ensures.instruction)
+    (rw same at c.commit.ensures.sheets) (rw same at c.commit.ensures.postings))
 
 pub returns-clause-given : goal.returns-clause-given
 returns-clause-given g c =

@@ -5,12 +5,16 @@ use Rattle.buck_cutter.proofs.cutter.Cutter.retarget.Goals as goal
 
 pub returns-clause-retargeted : goal.returns-clause-retargeted
 returns-clause-retargeted g c =
+    let ready = c.in_ok-ready.ensures in
+    let same = ready.content.history in
+    let done = c.commit_demand.ensures in
     rw (sym c.self.view_is)
-    (has_retargeted g.F.Fn c.self.inside.book c.prepare_demand.new.self c.commit_demand.new.self c.args.harvester
-    c.args.targets.now.value.items c.in_ok-ready.ready c.commit_demand.result c.requires.harvester
-    c.in_ok-ready.ensures.content c.in_ok-ready.ensures.ready c.in_ok-ready.ensures.targets c.in_ok-ready.ensures.given
-    c.commit_demand.ensures.demand c.commit_demand.ensures.instruction c.commit_demand.ensures.sheets
-    c.commit_demand.ensures.postings)
+    (has_retargeted g.F.Fn c.self.inside.book.rule c.self.inside.book.history c.commit_demand.new.self.history
+    c.args.harvester c.args.targets.now.value.items c.in_ok-ready.ready.next c.commit_demand.result
+    c.requires.harvester (rw (same, ready.targets) at ready.ready.valid)
+    (rw (same, ready.targets) at ready.ready.to_add.next_is c.args.harvester) ready.given
+    (rw (same, ready.targets) at done.demand) (rw same at done.instruction) (rw same at done.sheets)
+    (rw same at done.postings))
 
 pub returns-clause-given : goal.returns-clause-given
 returns-clause-given g c =

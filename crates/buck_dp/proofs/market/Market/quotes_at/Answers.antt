@@ -9,18 +9,17 @@ put : (c : goal.In_ok-push)
 put c =
     let k = c.self-2.inside in
     let found = list_found (HasTerms k.sheet.value k.menu) k.terms.items c.self-2.invariant.terms
-    (rw (← c.self-2.view_is) at c.in_ok-at.ensures.place) c.index-terms.ensures in
+    (rw (← c.self-2.view_is) at c.in_ok-at.ensures.place.1) c.index-terms.ensures in
     let ok = c.in_ok-put_list.ensures k.menu.offers.items (rw (c.as_slice-2.ensures.value, c.deref.ensures) found.0) in
-    let p = list_put (HasQuotes k.sheet.value k.menu) _ c.self-2.invariant.quotes c.len-place.result
-    c.in_ok-push.ensures.items (search rules) (rw c.deref.ensures at ok) found.2 in
-    (p.0, rw found.1 at p.1)
+    list_put (HasQuotes k.sheet.value k.menu) _ c.self-2.invariant.quotes c.len-place.result
+    c.in_ok-push.ensures.items (search rules) (rw c.deref.ensures at ok) found.2
 
 pub put_list-requires-clause-terms : goal.put_list-requires-clause-terms
 put_list-requires-clause-terms c =
     let k = c.self-2.inside in (
       k.menu.offers.items,
       rw (c.as_slice-2.ensures.value, c.deref.ensures) (list_found (HasTerms k.sheet.value k.menu) k.terms.items
-          c.self-2.invariant.terms (rw (← c.self-2.view_is) at c.in_ok-at.ensures.place) c.index-terms.ensures).0,
+          c.self-2.invariant.terms (rw (← c.self-2.view_is) at c.in_ok-at.ensures.place.1) c.index-terms.ensures).0,
     )
 
 pub invariant_of-self-2 : goal.invariant_of-self-2

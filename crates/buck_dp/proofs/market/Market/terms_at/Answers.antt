@@ -5,7 +5,7 @@ use Rattle.buck_dp.proofs.market.Market.terms_at.Goals as goal
 -- the terms that are found are put behind the others
 put : (c : goal.In_ok-push)
     → AllAre (HasTerms c.self.inside.sheet.value c.self.inside.menu) c.push.new.self.items
-    × IsListAt c.push.new.self.items c.args.takers c.args.diameter c.len-place.result
+    × IsListAt c.push.new.self.items c.every-takers.result c.args.diameter c.len-place.result
 put c =
     list_put (HasTerms c.self.inside.sheet.value c.self.inside.menu) _ c.self.invariant.terms c.len-place.result
     c.in_ok-push.ensures.items (search rules) (search (rules, c.in_ok-list.ensures)) c.band_around-band.ensures.within
@@ -19,4 +19,4 @@ invariant_of-self-2 c =
     record { valid = w.valid; menu = w.menu; kinds = w.kinds; terms = (put c).0; quotes = w.quotes; rows = w.rows }
 
 pub returns-clause-place : goal.returns-clause-place
-returns-clause-place c = (put c).1
+returns-clause-place c = (_, (put c).1)

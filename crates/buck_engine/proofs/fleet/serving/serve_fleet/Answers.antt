@@ -1,4 +1,4 @@
-use Rattle.std.proofs.Common.{rules, map, refl}
+use Rattle.std.proofs.Common.{rules, refl}
 use Rattle.buck_engine.specs.declared.fleet.serving.Order.TheVariants.{AtOnce, InTurn}
 use Rattle.buck_engine.specs.fleet.Running.{IsFleetRun}
 use Rattle.buck_engine.specs.inner.Fleet.{AreWritten}

@@ -21,4 +21,4 @@ returns-clause-full g c =
     too_many _ _ _ _ (read.number ∙ sym (length-map c.args.stms.now g.R.Read.remaining))
     (sym (length-map c.args.stms.now g.R.Read.remaining)) read.lists
     (subst (λ (l : List (Vec (Arc Stem Global) Global)). IfErr c.cut_lists.result
-    (λ fault. fault ≡ Full → 1000000 < stems_in_all l)) c.as_slice-2.ensures.value c.cut_lists.ensures.full)
+    (λ fault. fault ≡ Full → 1000000 < stems_in_all l)) c.as_slice-3.ensures.value c.cut_lists.ensures.full)

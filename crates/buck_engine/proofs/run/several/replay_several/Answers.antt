@@ -7,8 +7,8 @@ use Rattle.buck_engine.specs.run.Several.{AreLawful}
 use Rattle.buck_engine.proofs.Several.{few_of_all}
 use Rattle.buck_engine.proofs.run.several.replay_several.Goals as goal
 
-pub replay_in_parts-requires-clause-few : goal.replay_in_parts-requires-clause-few
-replay_in_parts-requires-clause-few g c κs within =
+pub replay-requires-clause-few : goal.replay-requires-clause-few
+replay-requires-clause-few g c =
     let js = c.args.several.now.journals.items in
     let lt : c.loop-place.place < length js = omega (arith, c.loop-place-test.true, c.len-place-end.ensures) in
     let few =

@@ -4,7 +4,7 @@ use Rattle.buck_engine.proofs.Opening.{as_many}
 use Rattle.buck_engine.proofs.run.showing.serve_view.Goals as goal
 
 pub show_opened-requires-clause-number : goal.show_opened-requires-clause-number
-show_opened-requires-clause-number g c κs within =
+show_opened-requires-clause-number g c =
     let opened = c.in_ok-instruction.ensures.others in
     let many = as_many g.O.Open.opens _ _ _ _ opened in
     let named = length-map c.as_slice-journals.result.now (λ s. s.now) in

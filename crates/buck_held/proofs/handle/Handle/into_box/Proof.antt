@@ -1,18 +1,10 @@
 -- `into_box` hands its pointer to `from_raw`, with the book that is owned there.
-use Rattle.buck_held.proofs.Walks.{[], ◌∷◌, refl, sym, ap, ◌∙◌, ◌≡◌, Option, Some, IsSome, proved, id⊢, ftrue, fact, heap_val, heap_Tells}
-use Rattle.buck_held.proofs.Walks.{‵, raw, ◌⊛◌, some, later, at_ret, ◌$◌, ◌∵◌, !, qed, done, move, drop, use1, split, split3, join, fsplit}
-use Rattle.buck_held.proofs.Walks.{feq_i, pick, await, rewrite, suffices, nothing, heard, peeks, shows, all_Typed, yes, plain, tables, framed}
-use Rattle.buck_held.proofs.Walks.{enter, of_opd, stop, fld, no_more, and_then, sub, whole, first, blocks, exec, returns}
-use Rattle.buck_held.proofs.Walks.{alloc_all, pass_all, free_all, look_at, get, get_in, sets, lands_last, env, full_share}
-use Rattle.buck_held.proofs.Walks.{calls_at_last, Stays, walk_of, says, stay_dropped, Goes-dropped, ends_at, the_value}
+use Rattle.buck_held.proofs.Walks.{tables_of, Lasts, lasts, [], ◌∷◌, refl, sym, ap, ◌∙◌, ◌≡◌, Option, Some, IsSome, proved, id⊢, ftrue, fact, heap_val, heap_Tells, ‵, raw, ◌⊛◌, some, later, at_ret, ◌$◌, ◌∵◌, !, qed, done, move, drop, use1}
+use Rattle.buck_held.proofs.Walks.{split, split3, join, fsplit, feq_i, pick, await, rewrite, suffices, nothing, heard, peeks, shows, all_Typed, yes, plain, tables, framed, enter, of_opd, stop, fld, no_more, and_then, sub, whole, first}
+use Rattle.buck_held.proofs.Walks.{blocks, exec, returns, alloc_all, pass_all, free_all, look_at, get, get_in, sets, lands_last, env, full_share, calls_at_last, Stays, walk_of, says, stay_dropped, Goes-dropped, ends_at, the_value}
 use Rattle.buck_held.proofs.Walks.{rawptr_vals, rawptr_Lawful, Handle, handle_Lawful, handle_vals, handle_Tells}
-use Rattle.buck_held.proofs.Boxes.{KeptBook, Heap, Boxed, KeptArg, HeapArg, heap_Laws, boxed_Laws, kept_arg_Laws, heap_arg_Laws, heap_drop}
-use Rattle.buck_held.proofs.Boxes.{heap_drop_met, FromRaw, from_raw_ended, tokens, hands}
-use contract.Running.{tables_of}
-use denote.Triple.Clauses.{Lasts, lasts}
+use Rattle.buck_held.proofs.Boxes.{passed, ghosts, dict, KeptBook, Heap, Boxed, KeptArg, HeapArg, heap_Laws, boxed_Laws, kept_arg_Laws, heap_arg_Laws, heap_drop, heap_drop_met, FromRaw, from_raw_ended, tokens, hands}
 use Rattle.std.proofs.boxed.Box.from_raw.Met.{met}
-use Rattle.std.proofs.impls.GlobalAllocator.TheImpl.Met.{passed}
-use Rattle.std.specs.contracts.impls.GlobalAllocator.TheImpl.{ghosts, dict}
 use Rattle.buck_held.specs.Block.{where_some, boxed_at}
 use Rattle.buck_held.specs.contracts.handle.Handle.into_box as f
 use Rattle.buck_held.proofs.handle.Handle.into_box.Statement.{statement}

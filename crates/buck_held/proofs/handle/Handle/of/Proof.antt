@@ -1,17 +1,9 @@
 -- `of` keeps the pointer that `into_raw` gives, with the book that is owned there.
-use Rattle.buck_held.proofs.Walks.{List, [], ◌∷◌, ◌++◌, refl, ap, Some, proved_at, id⊢, ftrue, Val, Ptr, RawPtr, layout, rawptr_Lawful}
-use Rattle.buck_held.proofs.Walks.{‵, raw, ◌⊛◌, some, later, prop, ◌$◌, ◌∵◌, !, qed, done, drop, use1, split, join, feq_l}
-use Rattle.buck_held.proofs.Walks.{pick, await, rewrite, regoal, suffices, nothing, only, peeks, shows, yes, plain, tables, WpFn, framed}
-use Rattle.buck_held.proofs.Walks.{enter, of_opd, no_more, and_then, agg, returns, alloc_all, pass_all, free_all, look_at, get, sets, lands_as, full_share}
-use Rattle.buck_held.proofs.Walks.{calls_at, Stays, walk_of, says, stay_dropped, Goes-dropped, ends_at, one_of}
-use Rattle.buck_held.proofs.Walks.{Handle, handle_Lawful, handle_val, handle_vals, handle_in}
-use Rattle.buck_held.proofs.Boxes.{Boxed, KeptArg, HeapArg, boxed_Laws, kept_arg_Laws, heap_arg_Laws, heap_drop, kept_drop}
-use Rattle.buck_held.proofs.Boxes.{heap_drop_met, kept_drop_met, IntoRaw, into_raw_ended, tokens, hands}
-use contract.Running.{tables_of}
-use denote.Triple.Clauses.{Lasts, lasts}
+use Rattle.buck_held.proofs.Walks.{tables_of, Lasts, lasts, List, [], ◌∷◌, ◌++◌, refl, ap, Some, proved_at, id⊢, ftrue, Val, Ptr, RawPtr, layout, rawptr_Lawful, ‵, raw, ◌⊛◌, some, later, prop, ◌$◌, ◌∵◌, !, qed, done, drop, use1, split}
+use Rattle.buck_held.proofs.Walks.{join, feq_l, pick, await, rewrite, regoal, suffices, nothing, only, peeks, shows, yes, plain, tables, WpFn, framed, enter, of_opd, no_more, and_then, agg, returns, alloc_all, pass_all, free_all, look_at}
+use Rattle.buck_held.proofs.Walks.{get, sets, lands_as, full_share, calls_at, Stays, walk_of, says, stay_dropped, Goes-dropped, ends_at, one_of, Handle, handle_Lawful, handle_val, handle_vals, handle_in}
+use Rattle.buck_held.proofs.Boxes.{passed, ghosts, dict, Boxed, KeptArg, HeapArg, boxed_Laws, kept_arg_Laws, heap_arg_Laws, heap_drop, kept_drop, heap_drop_met, kept_drop_met, IntoRaw, into_raw_ended, tokens, hands}
 use Rattle.std.proofs.boxed.Box.into_raw.Met.{met}
-use Rattle.std.proofs.impls.GlobalAllocator.TheImpl.Met.{passed}
-use Rattle.std.specs.contracts.impls.GlobalAllocator.TheImpl.{ghosts, dict}
 use Rattle.buck_held.specs.Block.{boxed_at}
 use Rattle.buck_held.specs.contracts.handle.Handle.of as f
 use Rattle.buck_held.proofs.handle.Handle.of.Statement.{statement}

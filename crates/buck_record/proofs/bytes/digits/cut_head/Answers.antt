@@ -13,7 +13,7 @@ pub returns-then-is_white-clause-value : goal.returns-then-is_white-clause-value
 returns-then-is_white-clause-value c =
     sym (no_word c.args.most c.args.text.now (λ _. sym c.if-is_white.ensures))
 
-pub cut_number-requires-clause-word : goal.cut_number-requires-clause-word
-cut_number-requires-clause-word c =
+pub cut_number-requires : goal.cut_number-requires
+cut_number-requires c =
     let some : 0 < length c.args.text.now = grind (arith, common_steps, c.is_empty.ensures, c.if-is_empty.false) in
     filled_word c.args.text.now some (sym c.if-is_white.ensures)

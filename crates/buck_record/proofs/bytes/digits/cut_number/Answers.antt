@@ -7,16 +7,17 @@ use Rattle.buck_record.proofs.NumberLemmas.{digits-more}
 use Rattle.buck_record.proofs.CutLemmas.{after_is, cut-not_digits, cut-too_large, cut-whole}
 use Rattle.buck_record.proofs.bytes.digits.cut_number.Goals as goal
 
-pub returns-then-value-most-clause-value : goal.returns-then-value-most-clause-value
-returns-then-value-most-clause-value c =
-    let digit : digit_value (get_or c.args.text.now c.loop-i.i 0) ≡ c.from.result = grind (arith, nat_tests) in
+pub returns-then-is_past-clause-value : goal.returns-then-is_past-clause-value
+returns-then-is_past-clause-value c =
+    let digit : digit_value (get_or c.args.text.now c.loop-i.i 0) ≡ c.from-digit.result = grind (arith, nat_tests) in
     sym (cut-too_large c.args.text.now c.loop-i.i c.loop-i.invariant.digits c.args.most c.loop-i-test.true
-    (sym c.if-is_ascii_digit.ensures.value) (omega arith))
+    (sym c.if-is_ascii_digit.ensures.value)
+    (omega (arith, digit, c.loop-i.invariant.value, c.is_past.ensures.past c.if-is_past.true)))
 
 pub returns-then-is_white-clause-value : goal.returns-then-is_white-clause-value
 returns-then-is_white-clause-value c =
     sym (cut-whole c.args.text.now c.loop-i.i c.loop-i.invariant.digits c.args.most c.loop-i.value (omega arith)
-    c.requires.word (λ _. sym c.if-is_white.ensures) c.loop-i.invariant.value c.loop-i.invariant.small)
+    c.requires (λ _. sym c.if-is_white.ensures) c.loop-i.invariant.value c.loop-i.invariant.small)
 
 pub returns-then-is_white-clause-after : goal.returns-then-is_white-clause-after
 returns-then-is_white-clause-after c =
@@ -31,7 +32,7 @@ returns-else-is_white-clause-value c =
 
 pub loop-i-preserved : goal.loop-i-preserved
 loop-i-preserved c =
-    let digit : digit_value (get_or c.args.text.now c.loop-i.i 0) ≡ c.from.result = grind (arith, nat_tests) in record {
+    let digit : digit_value (get_or c.args.text.now c.loop-i.i 0) ≡ c.from-digit.result = grind (arith, nat_tests) in record {
       digits = digits-more c.args.text.now c.loop-i.i c.loop-i-test.true c.loop-i.invariant.digits
           (sym c.if-is_ascii_digit.ensures.value);
       value = omega
@@ -42,7 +43,7 @@ loop-i-preserved c =
 pub returns-clause-value : goal.returns-clause-value
 returns-clause-value c =
     sym (cut-whole c.args.text.now c.loop-i.i c.loop-i.invariant.digits c.args.most c.loop-i.value (omega arith)
-    c.requires.word (λ lt. absurd (omega arith)) c.loop-i.invariant.value c.loop-i.invariant.small)
+    c.requires (λ lt. absurd (omega arith)) c.loop-i.invariant.value c.loop-i.invariant.small)
 
 pub returns-clause-after : goal.returns-clause-after
 returns-clause-after c =

@@ -7,7 +7,7 @@ use Rattle.buck_record.proofs.pass.kept_numbers.append_each.Given as goal
 -- what was added, with what is left, gives the numbers, and there is room for what is left
 abbrev pub invariant-loop-rest : goal.invariant-loop-rest
 invariant-loop-rest l = record {
-  adding : IsAdding 4294967295 l.fn.text l.fn.out.items l.out.items l.rest;
+  adding : IsAdding l.fn.text l.out.items l.rest;
   room : 0 < length l.rest → HasRoom (vec_len l.out) (vec_capacity l.out) (length l.rest);
 }
 

@@ -1,6 +1,7 @@
 use Rattle.std.proofs.Common.{inr, refl, sym, arith, rules, length-drop}
 use Rattle.std.proofs.lemmas.List.{take_rest}
 use Rattle.buck_record.specs.bytes.White.{words, first_word, after_word}
+use Rattle.buck_record.specs.inner.Front.{IsStuck}
 use Rattle.buck_record.proofs.WordLemmas.{words-more}
 use Rattle.buck_record.proofs.AddLemmas.{words-pass}
 use Rattle.buck_record.proofs.GroupLemmas.{filled_word}
@@ -15,16 +16,17 @@ returns-then-is_white-clause-step c =
       same = refl;
     }))
 
-pub front_long-requires : goal.front_long-requires
-front_long-requires c = filled_word c.args.text.now c.requires.some (sym c.if-is_white.ensures)
+pub front_number-requires : goal.front_number-requires
+front_number-requires c = filled_word c.args.text.now c.requires.some (sym c.if-is_white.ensures)
 
 pub returns-in_default-clause-stuck : goal.returns-in_default-clause-stuck
 returns-in_default-clause-stuck c =
     let t = c.args.text.now in
     let filled = filled_word t c.requires.some (sym c.if-is_white.ensures) in
-    record {
+    let stuck : IsStuck t = record {
       word = first_word t;
       more = words (after_word t);
       words = words-more t (after_word t) filled refl;
       wrong = search rules;
-    }
+    } in
+    (stuck, search rules)

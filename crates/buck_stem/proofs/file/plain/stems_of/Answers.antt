@@ -1,4 +1,3 @@
-use Rattle.buck_stem.specs.inner.Plain.{LeadsStem}
 use Rattle.buck_stem.proofs.JoinLemmas.{stems_start, stems_go_on, stems_end}
 use Rattle.buck_stem.proofs.file.plain.stems_of.Goals as goal
 
@@ -7,11 +6,8 @@ loop-init c = rw c.new-stems.ensures.items (stems_start c.args.body.now)
 
 pub loop-preserved : goal.loop-preserved
 loop-preserved c =
-    let rest = c.loop.rest.now in
-    let left = c.in-Some.left.now in
-    let one : LeadsStem rest c.in-Some.stem left = rw c.in-Some.is at c.in_ok-stem.ensures in
     rw c.in_ok-push.ensures.items
-    (stems_go_on c.args.body.now rest left c.loop.stems.items c.in-Some.stem c.loop.invariant one)
+    (stems_go_on c.args.body.now c.loop.rest.now c.in_ok-stem.left.now c.loop.stems.items _ c.loop.invariant c.in_ok-stem.ensures)
 
 pub returns-then-is_done : goal.returns-then-is_done
 returns-then-is_done c =

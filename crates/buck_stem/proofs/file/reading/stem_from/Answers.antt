@@ -30,7 +30,6 @@ zones_of-requires c = rw c.as_slice-4.ensures (range_ok c.args.draft.now c.requi
 pub of_parts-requires : goal.of_parts-requires
 of_parts-requires c =
     rw (
-      c.as_slice-5.ensures.value,
       c.in_ok-samples.ensures,
       c.in_ok-zones.ensures,
       c.as_slice.ensures,
@@ -44,7 +43,6 @@ pub returns : goal.returns
 returns c =
     rw (parts_are c.args.draft.now)
     (rw (
-      c.as_slice-5.ensures.value,
       c.in_ok-samples.ensures,
       c.in_ok-zones.ensures,
       c.as_slice.ensures,

@@ -1,9 +1,11 @@
-use Rattle.std.proofs.Common.{◌≡◌, ◌*◌, drop}
+use Rattle.std.proofs.Common.{◌≡◌, length}
 use Rattle.buck_record.specs.checking.Rules.{all_within}
 use Rattle.buck_stem.specs.file.Stm.{grades}
 use Rattle.buck_stem.proofs.file.rules.grades_within.Given as goal
 
-abbrev pub invariant-loop-k : goal.invariant-loop-k
-invariant-loop-k l =
-    all_within l.slot.low l.slot.high (grades (drop (2 * l.k) l.zones))
-    ≡ all_within l.slot.low l.slot.high (grades l.zones)
+abbrev pub invariant-loop-rest : goal.invariant-loop-rest
+invariant-loop-rest l =
+    all_within l.slot.low l.slot.high (grades l.rest) ≡ all_within l.slot.low l.slot.high (grades l.zones)
+
+abbrev pub decreases-loop-rest : goal.decreases-loop-rest
+decreases-loop-rest l = length l.rest

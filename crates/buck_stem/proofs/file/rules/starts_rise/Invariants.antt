@@ -1,7 +1,10 @@
-use Rattle.std.proofs.Common.{◌≡◌, ◌*◌, ◌-◌, drop}
+use Rattle.std.proofs.Common.{◌≡◌, length}
 use Rattle.buck_record.specs.checking.Rules.{is_rising}
 use Rattle.buck_stem.specs.file.Stm.{starts}
 use Rattle.buck_stem.proofs.file.rules.starts_rise.Given as goal
 
-abbrev pub invariant-loop-k : goal.invariant-loop-k
-invariant-loop-k l = is_rising (starts (drop (2 * (l.k - 1)) l.zones)) ≡ is_rising (starts l.zones)
+abbrev pub invariant-loop-rest : goal.invariant-loop-rest
+invariant-loop-rest l = is_rising (starts l.rest) ≡ is_rising (starts l.zones)
+
+abbrev pub decreases-loop-rest : goal.decreases-loop-rest
+decreases-loop-rest l = length l.rest

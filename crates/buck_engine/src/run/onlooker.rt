@@ -1,0 +1,45 @@
+//! Who looks on at a run.
+use buck_apt::Instruction;
+use buck_stem::Stem;
+use std::sync::Arc;
+
+/// A stem, or a share of one.
+pub trait HasStem {
+    /// The stem itself.
+    fn stem(&self) -> &Stem;
+}
+
+impl HasStem for Stem {
+    fn stem(&self) -> &Stem {
+        self
+    }
+}
+
+impl HasStem for Arc<Stem> {
+    fn stem(&self) -> &Stem {
+        self.as_ref()
+    }
+}
+
+/// What the threads of a run show of its work while it goes on. Nothing that a run writes depends on it.
+pub trait Onlooker {
+    /// All files are read, and their stems are about to be cut: the instruction, with the numbers of the run, and the
+    /// stems of each stem file.
+    fn read<S: HasStem>(&self, _instruction: &Instruction, _files: &[Vec<S>]) {}
+
+    /// So many stems are to be cut by a fleet.
+    fn cutting(&self, stems: usize);
+
+    /// A harvester of a fleet has planned the next stem of its file, and is about to bring it to the book.
+    fn planned(&self);
+}
+
+/// Nobody looks on.
+#[derive(Drop)]
+pub struct Nobody;
+
+impl Onlooker for Nobody {
+    fn cutting(&self, _stems: usize) {}
+
+    fn planned(&self) {}
+}

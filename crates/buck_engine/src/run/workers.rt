@@ -1,0 +1,120 @@
+//! Who does a run's work: one thread, or several at once.
+ghost use Rattle.std.specs.Prelude.{◌≢◌, ◌<◌, ◌≤◌, length, OnOk, IfOk, IfErr};
+ghost use Rattle.std.specs.Thread.{IsSync};
+ghost use Rattle.buck_record.specs.Reading.{Gives};
+ghost use Rattle.buck_book.specs.History.{IsLawful};
+ghost use Rattle.buck_book.specs.declared.posting.TheConstants.{MOST_POSTINGS};
+ghost use Rattle.buck_journal.specs.judging.Replay.{history_of, IsFirstFault};
+ghost use Rattle.buck_journal.specs.reading.Journal.{journal_of};
+
+use buck_apt::Instruction;
+use buck_journal::{
+    Journal, JournalFault, ReplayFault, read_journal, read_journal_in_parts, replay,
+    replay_in_parts,
+};
+use std::alloc::Global;
+use std::marker::Sync;
+use std::sync::Arc;
+use std::thread::{Threads, available_parallelism};
+
+/// How many threads there are if the machine doesn't say how many it has.
+const USUAL: usize = 4;
+
+/// The most threads that a run starts.
+const MOST: usize = 64;
+
+/// How many threads a run starts: the given number, or as many as the machine has, or 4 if it doesn't say; from 1 to
+/// 64.
+pub fn number_of_threads<T: Threads>(rt: &T, told: Option<u8>) -> usize
+    ensures { 0 < result }
+{
+    let wanted = match told {
+        Some(number) => usize::from(number),
+        None => match available_parallelism(rt) {
+            Ok(number) => number.get(),
+            Err(_) => USUAL,
+        },
+    };
+    wanted.max(1).min(MOST)
+}
+
+/// Those who read the journals of a run, and replay them. What comes of it doesn't depend on who they are.
+pub trait Workers {
+    /// That what starts their threads may be shared among these.
+    ghost can_share: { Type 0 };
+
+    /// The journal of some bytes, or why there is none, as [`read_journal`] says.
+    fn read_journal(&self, alloc: Global, bytes: &[u8]) -> Result<Journal, JournalFault>
+        requires share { can_share }
+        ensures value { Gives JournalFault.Memory result (journal_of bytes.now) }
+        ensures few { IfOk result (λ journal. length journal.entries ≤ MOST_POSTINGS) };
+
+    /// Whether a journal is lawful for an instruction, or its first fault, as [`replay`] says.
+    fn replay(
+        &self,
+        alloc: Global,
+        instruction: &Arc<Instruction>,
+        journal: &Journal,
+    ) -> Result<(), ReplayFault>
+        requires share { can_share }
+        requires few { length journal.now.entries ≤ MOST_POSTINGS }
+        ensures lawful { OnOk result (IsLawful (history_of instruction.now.value journal.now)) }
+        ensures refused { IfErr result (λ e.
+            e ≢ ReplayFault.Memory → IsFirstFault (history_of instruction.now.value journal.now) e) };
+}
+
+/// The thread that calls.
+#[derive(Clone, Copy, Debug)]
+pub struct OneThread;
+
+impl Workers for OneThread {
+    ghost can_share = { Unit {0} };
+
+    fn read_journal(&self, alloc: Global, bytes: &[u8]) -> Result<Journal, JournalFault> {
+        read_journal(alloc, bytes)
+    }
+
+    fn replay(
+        &self,
+        alloc: Global,
+        instruction: &Arc<Instruction>,
+        journal: &Journal,
+    ) -> Result<(), ReplayFault> {
+        replay(alloc, instruction, journal)
+    }
+}
+
+/// Several threads at once.
+#[derive(Drop)]
+pub struct SeveralThreads<'a, T> {
+    rt: &'a T,
+    number: usize,
+    ghost some: { 0 < number },
+}
+
+impl<'a, T: Threads> SeveralThreads<'a, T> {
+    /// Takes as many threads as are asked for, from 1 to 64, or as many as the machine has, if no number is given.
+    pub fn of(rt: &'a T, told: Option<u8>) -> SeveralThreads<'a, T> {
+        SeveralThreads {
+            rt,
+            number: number_of_threads(rt, told),
+        }
+    }
+}
+
+impl<T: Threads + Sync> Workers for SeveralThreads<'_, T> {
+    ghost can_share = { IsSync T.row };
+
+    fn read_journal(&self, alloc: Global, bytes: &[u8]) -> Result<Journal, JournalFault> {
+        read_journal_in_parts(self.rt, alloc, bytes, self.number)
+    }
+
+    fn replay(
+        &self,
+        alloc: Global,
+        instruction: &Arc<Instruction>,
+        journal: &Journal,
+    ) -> Result<(), ReplayFault> {
+        replay_in_parts(self.rt, alloc, self.number, instruction, journal)
+    }
+}
