@@ -1,5 +1,6 @@
-"""Builds the programs that bench/ times."""
+"""Builds the programs that bench/ measures, and counts their instructions."""
 import os
+import re
 import subprocess
 import sys
 
@@ -14,3 +15,13 @@ def built(crate, *words):
     if shown.returncode != 0 or not os.path.exists(program):
         sys.exit("the program doesn't build:\n" + shown.stdout + shown.stderr)
     return program
+
+
+def counted(words, env=None):
+    """What a run prints, and how many instructions it takes in all threads, as callgrind counts them. Variables of env
+    are added to the environment."""
+    tool = ["valgrind", "--tool=callgrind", "--callgrind-out-file=/dev/null"]
+    done = subprocess.run(tool + words, env={**os.environ, **(env or {})}, capture_output=True, text=True)
+    if done.returncode != 0:
+        sys.exit(f"{' '.join(words)} ended with status {done.returncode}:\n{done.stderr}")
+    return done.stdout, int(re.search(r"Collected : (\d+)", done.stderr)[1])

@@ -31,13 +31,9 @@ def made(folder, args, period):
         words = ["--stems", str(args.stems), "--files", "4", "--seed", "1", "--module", str(args.module)]
         subprocess.check_call([args.peer, "gen", "--out", folder, "--period", str(period)] + words)
         return [os.path.join(folder, name) for name in ["apt", "stm1", "stm2", "stm3", "stm4"]]
-    words = ["--stems", str(args.stems), "--seed", "1", "--module", str(args.module)]
+    words = ["--stems", str(args.stems), "--seed", "1", "--module", str(args.module), "--period", str(period)]
     subprocess.check_call([sys.executable, os.path.join(HERE, "make_workload.py"), "--out", folder] + words)
-    apt, stm = os.path.join(folder, "apt"), os.path.join(folder, "stm")
-    text = re.sub(r"902 1 \d+~", f"902 1 {period}~", open(apt).read())
-    with open(apt, "w") as file:
-        file.write(text)
-    return [apt, stm]
+    return [os.path.join(folder, "apt"), os.path.join(folder, "stm")]
 
 
 def figures(program, way, threads, files):

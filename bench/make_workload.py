@@ -16,7 +16,7 @@ def instruction(rng, args):
     lines = [
         "1 2 APT~",
         f"901 1 {args.module}~",
-        "902 1 10~",
+        f"902 1 {args.period}~",
         "903 1 300~",
         f"910 1 {args.assortments}~",
     ]
@@ -67,6 +67,7 @@ def main():
     parser.add_argument("--stems", type=int, default=20000)
     parser.add_argument("--seed", type=int, default=1)
     parser.add_argument("--module", type=int, default=100)
+    parser.add_argument("--period", type=int, default=10)
     parser.add_argument("--assortments", type=int, default=6)
     parser.add_argument("--rows", type=int, default=4)
     parser.add_argument("--lengths", type=int, default=10)

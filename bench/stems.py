@@ -12,13 +12,12 @@ that scripts/c_library leaves in out/c.
 """
 import argparse
 import os
-import re
 import struct
 import subprocess
 import sys
 import tempfile
 
-from building import built
+from building import built, counted
 
 HERE = os.path.dirname(os.path.abspath(__file__))
 TOP = os.path.dirname(HERE)
@@ -42,18 +41,9 @@ def write_stems(text, name):
     return number
 
 
-def counted(scratch, *words):
-    """What a program prints, and how many instructions it takes."""
-    words = ["valgrind", "--tool=callgrind", f"--callgrind-out-file={scratch}/callgrind", *words]
-    done = subprocess.run(words, capture_output=True, text=True)
-    if done.returncode != 0:
-        sys.exit(done.stdout + done.stderr)
-    return done.stdout, int(re.search(r"Collected : (\d+)", done.stderr)[1])
-
-
-def of_a_stem(scratch, number, *words):
+def of_a_stem(number, *words):
     """What twice over prints, and the instructions of a stem."""
-    once, twice = counted(scratch, *words, "1"), counted(scratch, *words, "2")
+    once, twice = counted([*words, "1"]), counted([*words, "2"])
     return twice[0], (twice[1] - once[1]) / number
 
 
@@ -69,18 +59,15 @@ def main():
     with tempfile.TemporaryDirectory() as scratch:
         make = [sys.executable, os.path.join(HERE, "make_workload.py"), "--out", scratch, "--seed", "1"]
         make += ["--stems", str(words.stems), "--module", str(words.module), "--zoned", str(words.zoned)]
+        make += ["--period", str(words.period)]
         subprocess.run(make, check=True, stdout=subprocess.DEVNULL)
         apt, stm, stems, in_c = (os.path.join(scratch, name) for name in ("apt", "stm", "stems", "in_c"))
-        with open(apt, "rb") as file:
-            text = file.read()
-        with open(apt, "wb") as out:
-            out.write(re.sub(rb"902 1 \d+~", b"902 1 %d~" % words.period, text))
         with open(stm, "rb") as file:
             number = write_stems(file.read(), stems)
         compiler = [os.environ.get("CC", "cc"), "-O2", "-I", LIBRARY, os.path.join(HERE, "stems.c")]
         subprocess.run([*compiler, os.path.join(LIBRARY, "libbuckfleet.a"), "-o", in_c], check=True)
-        alone, least = of_a_stem(scratch, number, program, "stems", apt, stm)
-        through, most = of_a_stem(scratch, number, in_c, apt, stems)
+        alone, least = of_a_stem(number, program, "stems", apt, stm)
+        through, most = of_a_stem(number, in_c, apt, stems)
         print(f"module {words.module}, periods of {words.period}, {number} stems, {words.zoned} percent of them with zones")
         print(f"a plan and a commit      {least:10.0f} instructions    {alone.strip()}")
         print(f"through the C library    {most:10.0f}                 {through.strip()}")

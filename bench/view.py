@@ -14,10 +14,11 @@ With --days there are that many journals of --megabytes each, and `view` is run 
 """
 import argparse
 import os
-import re
 import subprocess
 import sys
 import tempfile
+
+from building import counted
 
 HERE = os.path.dirname(os.path.abspath(__file__))
 TABLES = {"table": ["logs"]}
@@ -32,13 +33,6 @@ def run(words, out):
     if child.returncode != 0:
         sys.exit(f"{' '.join(words)} ended with status {child.returncode}")
     return usage.ru_utime + usage.ru_stime, usage.ru_maxrss / 1024
-
-
-def instructions(words, folder):
-    """The instructions of one run, as callgrind counts them."""
-    tool = ["valgrind", "--tool=callgrind", f"--callgrind-out-file={folder}/callgrind.{words[1]}"]
-    shown = subprocess.run(tool + words, stdout=subprocess.DEVNULL, stderr=subprocess.PIPE, text=True).stderr
-    return int(re.search(r"Collected : (\d+)", shown)[1])
 
 
 def harvest(program, folder, stems, seed):
@@ -70,7 +64,7 @@ def compared(words, folder):
             took[of], peak[of] = min(took.get(of, seconds), seconds), max(peak.get(of, 0), memory)
             size[of] = os.path.getsize(out)
     if words.callgrind:
-        counts = {of: instructions(asked, folder) for of, asked in runs.items()}
+        counts = {of: counted(asked)[1] for of, asked in runs.items()}
     for of in runs:
         name = "now" if of[0] == programs[-1] else "before"
         count = f", {counts[of]:,} instructions" if counts else ""

@@ -308,7 +308,7 @@ static void in_turn(void) {
     want(buckfleet_in_turn(both, all, lengths, 3, BUCKFLEET_STEP, text, ROOM, &texts) == BUCKFLEET_MISUSED, "lengths of more");
     want(buckfleet_in_turn(both, all, lengths, 1, BUCKFLEET_STEP, text, ROOM, &texts) == BUCKFLEET_MISUSED, "lengths of less");
     want(buckfleet_in_turn(both, 1, great, 2, BUCKFLEET_STEP, text, ROOM, &texts) == BUCKFLEET_MISUSED, "lengths that wrap");
-    want(all_are(text, 0, 0, ROOM), "nothing is written where it is misused");
+    want(all_are(text, 0, 0, ROOM), "nothing is written if it is misused");
     want(buckfleet_in_turn(apt.at, apt.length, lengths, 1, BUCKFLEET_STEP, text, ROOM, &texts) == BUCKFLEET_SEATS
              && texts.journal == 0 && texts.report > 0, "no stem file");
     want(buckfleet_in_turn(both, all, lengths, 2, BUCKFLEET_ROOT, text, ROOM, &texts) == BUCKFLEET_OK
@@ -378,7 +378,7 @@ static void misused(several_call *ask_of, struct files files, const char *what) 
     asked_run.rule = BUCKFLEET_ROOT + 1;
     if (ask_of != ask_worths && ask_of != ask_beside)
         want(ask_of(&files, 3, text, ROOM, &n) == BUCKFLEET_MISUSED && n == 0, what);
-    want(all_are(text, 0, 0, ROOM), "nothing is written where it is misused");
+    want(all_are(text, 0, 0, ROOM), "nothing is written if it is misused");
 }
 
 static void several(void) {

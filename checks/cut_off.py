@@ -4,7 +4,7 @@
     checks/cut_off.py PROGRAM [--moments N] [--stems N]
 
 A run of one harvester always writes the same journal. It is run to its end once, and then again and again over an old
-OUT, ended by SIGKILL at moments spread over the time that it takes, closer towards the end, where it writes. Each time
+OUT, ended by SIGKILL at moments spread over the time that it takes, closer towards the end, when it writes. Each time
 OUT must be the old file or the new journal, whole. The last line is 'N moments: A old, B new, M neither', and the
 status is 0 if none is neither. What an ended run left beside OUT must have a name that says what it is, and be a first
 part of the new journal; the next run leaves it alone, which is looked at too.

@@ -81,7 +81,7 @@ HABITS = {
     r"(is|are|was|were|be|been|being)(n't)? told": 0,
     r"look(s|ed|ing)? whether": 0,
     r"since": 3,
-    r"where": 4,
+    r"where": 1,
 }
 MOST_WHAT = 5
 

@@ -78,7 +78,7 @@ For a sceptic: all that must be believed of this repository for [the headline](P
 
 First come the clauses of the calls that it is about, then every definition that they lead to, with its file, its lines, and links to the definitions that it names. Nothing here is a body or a proof.
 
-The page shows {lines} lines of the sources, from {files} files: {clauses} of the heads and clauses of {calls} calls, and {definitions} of definitions. {types} of these are types of the code; where contracts see a type through a view, the page shows the view but not the type's invariant.
+The page shows {lines} lines of the sources, from {files} files: {clauses} of the heads and clauses of {calls} calls, and {definitions} of definitions. {types} of these are types of the code; if contracts see a type through a view, the page shows the view but not the type's invariant.
 
 If a comment calls a value valid or lawful, it means the invariant of its type, which the checker enforces: for `Instruction`, `Assortment`, `Stem`, `Sheet` and `Plan` it is `IsInstruction`, `IsAssortment`, `IsStem`, `IsSheet` and `IsPlan`; that of `Parts`, and so of `Closed`, contains `IsLawful`. So a history that `close` refuses is lawful too.
 

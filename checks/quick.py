@@ -5,8 +5,8 @@
 
 They run under the checking interpreter, which stops at an index out of bounds, an overflow, a failed assertion. It proves
 nothing: `rt ci` is the gate, and `rt verdict` and `rt must-fail NAME` are the gate for one crate. Without names it takes
-every crate of crates.txt that has a #[test], and run_cases. The last line is 'N passed, M failed', where a file of cases
-counts as one, and the status is 0 if none failed.
+every crate of crates.txt that has a #[test], and run_cases. The last line is 'N passed, M failed', in which a file of
+cases counts as one, and the status is 0 if none failed.
 """
 import argparse
 import concurrent.futures

@@ -195,7 +195,7 @@ fn price_height(change: Difference, limit: u32) -> u32
     }
 }
 
-/// Writes the price curve of a class of the assortment at a place: stairs, with no step where nothing changes.
+/// Writes the price curve of a class of the assortment at a place: stairs, with no step at a point without a change.
 fn write_stairs(
     out: &mut String,
     style: &'static str,

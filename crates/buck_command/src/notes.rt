@@ -138,8 +138,7 @@ impl<'a, A: Known> Inquest<'a, A> {
         Ok(())
     }
 
-    /// The warnings after some work, a line each, with those about its input, if stems of files were cut. Refused as
-    /// `Memory` alone.
+    /// The warnings after some work, a line each, with those about what it has read. Refused as `Memory` alone.
     pub(crate) fn notes(&self, input: Option<&Result<String, Memory>>) -> Result<String, Memory> {
         let mut out = String::new(self.alloc);
         self.journal_note(&mut out)?;
@@ -147,11 +146,7 @@ impl<'a, A: Known> Inquest<'a, A> {
         match input {
             Some(Ok(notes)) => out.push_str(notes.as_str())?,
             Some(Err(memory)) => return Err(*memory),
-            None => {
-                if let Some(instruction) = self.instruction() {
-                    name_note(&mut out, self.subject, &instruction)?;
-                }
-            }
+            None => {}
         }
         Ok(out)
     }

@@ -95,7 +95,7 @@ impl<'a, A: Known> Inquest<'a, A> {
     }
 
     /// The instruction of the run, with the numbers that are put in.
-    pub(crate) fn instruction(&self) -> Option<Instruction> {
+    fn instruction(&self) -> Option<Instruction> {
         self.instruction_with(self.subject.settings)
     }
 

@@ -3,8 +3,8 @@ ghost use Rattle.std.specs.Prelude.{◌≡◌};
 ghost use Rattle.buck_command.specs.Work.{DoesWork};
 
 use buck_engine::{
-    BuckTask, CheckTask, FleetTask, Make, Onlooker, Open, Task, ViewTask, serve, serve_buck,
-    serve_check, serve_fleet, serve_view,
+    BuckTask, CheckTask, FleetTask, Make, Open, Task, ViewTask, serve, serve_buck, serve_check,
+    serve_fleet, serve_view,
 };
 use buck_ledger::{AppraiseTask, CompareTask, serve_appraise, serve_compare};
 use buck_live::{LiveTask, Replies, serve_live};
@@ -73,7 +73,7 @@ pub struct Streams<R, W, E> {
 /// [`serve_wishes`], [`serve_tune`], [`serve_appraise`] and [`serve_compare`].
 pub fn serve_work<
     T: Threads + Wait + Sync,
-    L: Onlooker + RunOnlooker + Sync,
+    L: RunOnlooker + Sync,
     O: Open + Make,
     R: io::Read,
     W: Replies,
@@ -94,15 +94,15 @@ pub fn serve_work<
         Work::Plain(task) => Ok(serve(alloc, task, onlooker, input, files, output)?),
         Work::Buck(task) => Ok(serve_buck(rt, alloc, task, onlooker, files, output)?),
         Work::Fleet(task) => Ok(serve_fleet(rt, alloc, task, onlooker, files, output)?),
-        Work::Check(task) => Ok(serve_check(rt, alloc, task, files, output)?),
-        Work::View(task) => Ok(serve_view(rt, alloc, task, files, output)?),
-        Work::Live(task) => Ok(serve_live(alloc, task, input, files, output)?),
-        Work::Sweep(task) => Ok(serve_sweep(rt, alloc, task, files, output)?),
+        Work::Check(task) => Ok(serve_check(rt, alloc, task, onlooker, files, output)?),
+        Work::View(task) => Ok(serve_view(rt, alloc, task, onlooker, files, output)?),
+        Work::Live(task) => Ok(serve_live(alloc, task, onlooker, input, files, output)?),
+        Work::Sweep(task) => Ok(serve_sweep(rt, alloc, task, onlooker, files, output)?),
         Work::Trial(task) => serve_trial(rt, alloc, task, onlooker, files, output),
-        Work::Owned(task) => serve_owned(rt, alloc, task, files, output),
+        Work::Owned(task) => serve_owned(rt, alloc, task, onlooker, files, output),
         Work::Wishes(task) => serve_wishes(rt, alloc, task, onlooker, files, output),
         Work::Tune(task) => serve_tune(alloc, task, onlooker, files, output),
-        Work::Appraise(task) => serve_appraise(rt, alloc, task, files, output),
-        Work::Compare(task) => Ok(serve_compare(rt, alloc, task, files, output)?),
+        Work::Appraise(task) => serve_appraise(rt, alloc, task, onlooker, files, output),
+        Work::Compare(task) => Ok(serve_compare(rt, alloc, task, onlooker, files, output)?),
     }
 }

@@ -1,5 +1,5 @@
 -- What a commit adds to a history.
-use Rattle.std.proofs.Common.{◌≡◌, ◌≤◌, ◌<◌, ℕ, List, [], ◌∷◌, ◌++◌, Option, Some, IfSome, refl}
+use Rattle.std.proofs.Common.{◌≡◌, ℕ, List, [], ◌∷◌, ◌++◌, Option, IfSome}
 use Rattle.std.proofs.lemmas.Option.{IfSome_then}
 use Rattle.buck_apt.specs.Instruction.{InstructionParts}
 use Rattle.buck_stem.specs.Stem.{StemParts}
@@ -7,63 +7,23 @@ use Rattle.buck_value.specs.Sheet.{SheetParts}
 use Rattle.buck_book.specs.declared.posting.Posting.{Posting}
 use Rattle.buck_book.specs.declared.posting.Posting.TheVariants.{Cut, Demand}
 use Rattle.buck_book.specs.Entry.{EntryParts, DemandParts}
-use Rattle.buck_book.specs.Plan.{PlanParts, IsPlan}
-use Rattle.buck_book.specs.Targets.{AreTargets}
-use Rattle.buck_book.specs.History.{HistoryParts, IsLawful, in_force, sheets_with, history_with}
-use Rattle.buck_book.specs.Pricing.{Calls, AreAnswers, AreAnswersWith, AreAnswersWithDemand}
-use Rattle.buck_book.specs.Book.{BookParts, IsNext, entry_of, demand_of}
+use Rattle.buck_book.specs.History.{HistoryParts, IsLawful, sheets_with, history_with}
+use Rattle.buck_book.specs.Pricing.{Calls, AreAnswers}
+use Rattle.buck_book.specs.Book.{BookParts, IsNext}
 use Rattle.buck_book.proofs.Given.{one_more, same_history}
 use Rattle.buck_cutter.specs.Cut.{OfPrices, HasAdded, HasCut, HasRetargeted, StaysByRule}
 
 -- a posting was added
-added : (P : OfPrices) (before after : HistoryParts) (x : Posting) (next : Option SheetParts)
-    → IsNext before x next → IfSome next (λ s. P before.instruction (before.postings ++ x ∷ []) s.prices)
+pub added : (P : OfPrices) (before after : HistoryParts) (x y : Posting) (next : Option SheetParts) → x ≡ y
+    → IsNext before y next → IfSome next (λ s. P before.instruction (before.postings ++ y ∷ []) s.prices)
     → after.instruction ≡ before.instruction → after.sheets ≡ sheets_with before.sheets next
     → after.postings ≡ before.postings ++ x ∷ [] → HasAdded P x before after
-added P before after x next is_next given instruction sheets postings = record {
+added P before after x y next is is_next given instruction sheets postings = record {
   next = next;
-  next_is = is_next;
-  by_rule = given;
+  next_is = rw is is_next;
+  by_rule = rw is given;
   after_is = same_history after (history_with before x next) instruction sheets postings;
 }
-
--- a plan's commit
-pub has_cut : {F : Type 0} (g : Calls F) (f : F) (h after : HistoryParts) (harvester : ℕ) (plan : PlanParts)
-    (next : Option SheetParts) (entry : EntryParts)
-    → (0 < harvester) × (harvester ≤ 64) → IsPlan plan → plan.sheet ≡ in_force h
-    → IsNext h (Cut (entry_of h harvester plan)) next → IfSome next (λ s. AreAnswersWith g f h plan s.prices)
-    → entry ≡ entry_of h harvester plan → after.instruction ≡ h.instruction
-    → after.sheets ≡ sheets_with h.sheets next → after.postings ≡ h.postings ++ Cut entry ∷ []
-    → HasCut (AreAnswers g f) harvester plan.stem h after entry
-has_cut g f h after harvester plan next entry who is_plan in_force_is is_next given entry_is instruction sheets
-    postings = record {
-      who = who;
-      plan = plan;
-      is_plan = is_plan;
-      same_stem = refl;
-      sheet_in_force = in_force_is;
-      entry_is = entry_is;
-      added = rw entry_is (added (AreAnswers g f) h after (Cut (entry_of h harvester plan)) next is_next
-          (IfSome_then next given (λ s answers. answers harvester)) instruction sheets (rw entry_is at postings));
-    }
-
--- a demand's commit
-pub has_retargeted : {F : Type 0} (g : Calls F) (f : F) (h after : HistoryParts) (harvester : ℕ) (targets : List ℕ)
-    (next : SheetParts) (demand : DemandParts)
-    → (0 < harvester) × (harvester ≤ 64) → AreTargets h.instruction targets
-    → IsNext h (Demand (demand_of h harvester targets)) (Some next)
-    → AreAnswersWithDemand g f h targets next.prices → demand ≡ demand_of h harvester targets
-    → after.instruction ≡ h.instruction → after.sheets ≡ h.sheets ++ next.prices ∷ []
-    → after.postings ≡ h.postings ++ Demand demand ∷ []
-    → HasRetargeted (AreAnswers g f) harvester targets h after demand
-has_retargeted g f h after harvester targets next demand who valid is_next given demand_is instruction sheets
-    postings = record {
-      who = who;
-      valid = valid;
-      demand_is = demand_is;
-      added = rw demand_is (added (AreAnswers g f) h after (Demand (demand_of h harvester targets)) (Some next) is_next
-          (given harvester) instruction sheets (rw demand_is at postings));
-    }
 
 -- with one posting more a book stays by its rule
 pub still_by_rule : {F : Type 0} (g : Calls F) (b a : BookParts F) (x : Posting) → IsLawful b.history

@@ -44,28 +44,6 @@ impl<F> Model for Cutter<F> {
     ghost invariant = { λ c. IsSheetOf c.book.history c.planner };
 }
 
-/// Plans a stem under the sheet in force, by a planner whose sheet is one of the book's.
-#[tactic(auto, using(crate::proofs::Sheets::is_in_force, crate::proofs::Sheets::in_force_is))]
-fn plan<F: Drop>(
-    alloc: Global,
-    book: &Book<F>,
-    planner: &mut Planner,
-    stem: Arc<Stem>,
-) -> Result<Plan, Memory>
-    requires planner { IsSheetOf book.now.history planner.old }
-    ensures planner { IsSheetOf book.now.history planner.new }
-    ensures stem { IfOk result (λ p. p.stem ≡ stem.value) }
-    ensures sheet { IfOk result (λ p. p.sheet ≡ in_force book.now.history) }
-    ensures plan { IfOk result IsPlan }
-{
-    // By version: all sheets of the planner are the book's, so no prices need comparing.
-    if planner.sheet().version() != book.version() {
-        let _lawful = book.entries();
-        planner.renew(alloc, book.sheet().clone()?)?;
-    }
-    Plan::make_with(alloc, planner, stem)
-}
-
 impl<F: Drop> Cutter<F> {
     /// The book as it stands.
     pub fn book(&self) -> &Book<F>
@@ -95,13 +73,19 @@ impl<F: Drop> Cutter<F> {
 
     /// How a stem would be cut now: its plan under the sheet in force. The book stays as it was, and nobody else is
     /// asked. Refused as `Memory` alone.
+    #[tactic(auto, using(crate::proofs::Sheets::is_in_force, crate::proofs::Sheets::in_force_is))]
     pub fn preview(&mut self, alloc: Global, stem: Arc<Stem>) -> Result<Plan, Memory>
         ensures same { self.new ≡ self.old }
         ensures stem { IfOk result (λ p. p.stem ≡ stem.value) }
         ensures sheet { IfOk result (λ p. p.sheet ≡ in_force self.old.history) }
         ensures plan { IfOk result IsPlan }
     {
-        plan(alloc, &self.book, &mut self.planner, stem)
+        // By version: all sheets of the planner are the book's, so no prices need comparing.
+        if self.planner.sheet().version() != self.book.version() {
+            let _lawful = self.book.entries();
+            self.planner.renew(alloc, self.book.sheet().clone()?)?;
+        }
+        Plan::make_with(alloc, &mut self.planner, stem)
     }
 
     /// The text of the journal of all postings so far. Refused as `Memory` alone.

@@ -136,7 +136,7 @@ pub fn terms_of(
 }
 
 /// Whether a leader outbids a quote of its price kind, for logs that are no longer and have no more trim: per cubic
-/// metre from 36 mm on, where a millimetre of a log is more than the cubic centimetre that a whole volume may lack.
+/// metre from 36 mm on: a millimetre of such a log is more than the cubic centimetre that a whole volume may lack.
 #[inline(always)]
 fn is_led(leader: Quote, quote: Quote) -> bool
     ensures { IsTrue result → IsLed leader quote }

@@ -7,8 +7,8 @@
 //! [`run_table`] show it. [`write_fault`] and [`status`] are the line and the exit status of a fault, and [`conclude`]
 //! says how a run ended. [`serve`] is a whole run, by its [`Task`], over files that an [`Open`] opens, as [`Disk`];
 //! [`serve_buck`] one that cuts stems in several threads, [`serve_check`] one that ties a journal, [`serve_view`] one
-//! that shows journals, which both replay in several threads, and [`serve_fleet`] one of a fleet. Where stems are cut,
-//! an [`Onlooker`] may look on. [`Workers`] read and replay journals in one thread, or in several at once, and
+//! that shows journals, which both replay in several threads, and [`serve_fleet`] one of a fleet. An [`Onlooker`] may
+//! look on at whole runs. [`Workers`] read stems and journals in one thread, or in several at once, and
 //! [`run_buck_in_parts`] does in several threads what [`run_buck`] does in one. [`laws`] says that there is one text.
 #![tactic(auto)]
 

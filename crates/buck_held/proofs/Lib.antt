@@ -1,3 +1,2 @@
-pub mod Walks
-pub mod Boxes
+pub mod Handles
 pub mod Ruled

@@ -57,11 +57,7 @@ pub enum FellFault {
 fn zones_of(alloc: Global, zones: &[Zone]) -> Result<Vec<(u32, u8)>, AllocError>
     ensures { IfOk result (λ pairs. pairs.items ≡ map pair_of zones.now) }
 {
-    let mut pairs = Vec::with_capacity(alloc, zones.len())?;
-    for zone in zones {
-        pairs.push((zone.start, zone.grade))?;
-    }
-    Ok(pairs)
+    zones.iter().map(|z| (z.start, z.grade)).collect(alloc)
 }
 
 /// The stem of these parts, which a harvester from 1 to 64 cuts.
@@ -76,25 +72,15 @@ pub(crate) fn stem_of(
     ensures harvester { IsOk result → IsWithin 1 64 felled.now.harvester }
     ensures refused { IfErr result (IsLookFault felled.now (stem_by felled.now samples.now zones.now)) }
 {
-    if felled.harvester == 0 {
+    if felled.harvester == 0 || felled.harvester > 64 {
         return Err(FellFault::Harvester);
     }
-    if felled.harvester > 64 {
-        return Err(FellFault::Harvester);
-    }
-    let Ok(zones) = zones_of(alloc, zones) else {
-        return Err(FellFault::Memory);
-    };
-    let Ok(samples) = Vec::from_slice(alloc, samples) else {
-        return Err(FellFault::Memory);
-    };
+    let zones = zones_of(alloc, zones).or(Err(FellFault::Memory))?;
+    let samples = Vec::from_slice(alloc, samples).or(Err(FellFault::Memory))?;
     match Stem::make(alloc, felled.number, felled.species, samples, zones) {
-        Ok(stem) => match Arc::new(alloc, stem) {
-            Ok(stem) => Ok(stem),
-            Err(_) => Err(FellFault::Memory),
-        },
+        Ok(stem) => Arc::new(alloc, stem).or(Err(FellFault::Memory)),
         Err(StemFault::Limits) => Err(FellFault::Stem),
-        Err(_) => Err(FellFault::Memory),
+        Err(StemFault::Memory) => Err(FellFault::Memory),
     }
 }
 

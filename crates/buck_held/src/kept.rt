@@ -29,11 +29,11 @@ pub struct KeptBook {
 impl Model for KeptBook {
     ghost use Rattle.std.specs.Prelude.{IsSome};
     ghost use Rattle.buck_held.specs.Kept.{KeptParts};
-    ghost use Rattle.buck_held.specs.inner.Resting.{book_in, kept_of};
+    ghost use Rattle.buck_held.specs.inner.Resting.{kept_of};
 
     ghost Value = { KeptParts };
 
-    ghost view = { λ k. kept_of k.rule (book_in k.cutter) };
+    ghost view = { λ k. kept_of k.rule k.cutter };
 
     ghost invariant = { λ k. IsSome k.cutter };
 }

@@ -36,15 +36,12 @@ pub struct Appraisal {
 fn logs_of(alloc: Global, named: &[NamedLog]) -> Result<Vec<Log>, AllocError>
     ensures { IfOk result (λ logs. logs.items ≡ map log_by named.now) }
 {
-    let mut logs = Vec::with_capacity(alloc, named.len())?;
-    for log in named {
-        logs.push(Log {
-            start: log.start,
-            length: log.length,
-            assortment: log.assortment,
-        })?;
-    }
-    Ok(logs)
+    let log_by = |g: &NamedLog| Log {
+        start: g.start,
+        length: g.length,
+        assortment: g.assortment,
+    };
+    named.iter().map(log_by).collect(alloc)
 }
 
 impl KeptBook {
@@ -63,10 +60,7 @@ impl KeptBook {
         ensures refused { IfErr result (IsLookFault felled.now (stem_by felled.now samples.now zones.now)) }
     {
         let stem = stem_of(alloc, felled, samples, zones)?;
-        match self.preview(alloc, stem) {
-            Ok(plan) => Ok(plan),
-            Err(_) => Err(FellFault::Memory),
-        }
+        self.preview(alloc, stem).or(Err(FellFault::Memory))
     }
 
     /// How a felled stem would be cut now: the entry that [`fell`](KeptBook::fell) would give, with nothing committed.
@@ -85,12 +79,8 @@ impl KeptBook {
         ensures refused { IfErr result (IsLookFault felled.now (stem_by felled.now samples.now zones.now)) }
     {
         let plan = self.plan_felled(alloc, felled, samples, zones)?;
-        let Ok(stem) = plan.stem().clone() else {
-            return Err(FellFault::Memory);
-        };
-        let Ok(cutting) = plan.cutting().clone() else {
-            return Err(FellFault::Memory);
-        };
+        let stem = plan.stem().clone().or(Err(FellFault::Memory))?;
+        let cutting = plan.cutting().clone().or(Err(FellFault::Memory))?;
         let book = self.book();
         let _few = book.len();
         Ok(Entry {
@@ -121,9 +111,7 @@ impl KeptBook {
         ensures refused { IfErr result (IsLookFault felled.now (stem_by felled.now samples.now zones.now)) }
     {
         let plan = self.plan_felled(alloc, felled, samples, zones)?;
-        let Ok(logs) = logs_of(alloc, named) else {
-            return Err(FellFault::Memory);
-        };
+        let logs = logs_of(alloc, named).or(Err(FellFault::Memory))?;
         Ok(Appraisal {
             judged: judge(plan.sheet(), plan.stem(), logs.as_slice()),
             best: plan.worth(),

@@ -43,6 +43,7 @@ fn three(number: u32) -> (u8, u8, u8)
 }
 
 /// The digits of a number of two.
+#[tactic(auto, using(buck_record::proofs::Three::decimal_of_two))]
 #[inline(always)]
 fn two(number: u32) -> (u8, u8)
     requires { (10 ≤ number) × (number < 100) }

@@ -6,7 +6,7 @@ ghost use Rattle.buck_journal.specs.Written.{item_text, zone_numbers, log_number
 
 use crate::fours::{put, put_four};
 use buck_book::{Demand, Entry, Posting};
-use buck_record::{Memory, put_number, put_numbers};
+use buck_record::{Memory, put_number};
 use buck_stem::Stem;
 use buck_value::{Log, Sheet};
 use std::alloc::Global;
@@ -66,15 +66,6 @@ fn put_logs(out: &mut Vec<u8>, logs: &[Log]) -> Result<(), Memory>
     Ok(())
 }
 
-/// Puts an item of a few numbers.
-fn put_few(out: &mut Vec<u8>, head: &[u8], numbers: &[u128]) -> Result<(), Memory>
-    ensures { OnOk result (out.new.items ≡ out.old.items ++ item_text head.now numbers.now) }
-{
-    put(out, head)?;
-    put_numbers(out, numbers)?;
-    put(out, b"~\n")
-}
-
 /// Puts an item of a list of numbers.
 fn put_list(out: &mut Vec<u8>, head: &[u8], numbers: &[u32]) -> Result<(), Memory>
     ensures { OnOk result (out.new.items ≡ out.old.items ++ item_text head.now numbers.now) }
@@ -91,12 +82,20 @@ fn put_stem(out: &mut Vec<u8>, stem: &Stem) -> Result<(), Memory>
         ++ item_text (codes "981 3") stem.now.samples
         ++ item_text (codes "981 4") (zone_numbers stem.now.zones))) }
 {
-    let number = u128::from(stem.number());
-    put_few(out, b"981 2", &[number, u128::from(stem.species())])?;
+    put_list(out, b"981 2", &[stem.number(), u32::from(stem.species())])?;
     put(out, b"981 3")?;
     put_samples(out, stem.samples())?;
     put(out, b"~\n981 4")?;
     put_zones(out, stem.zones())?;
+    put(out, b"~\n")
+}
+
+/// Puts the item of a worth.
+fn put_worth(out: &mut Vec<u8>, worth: u64) -> Result<(), Memory>
+    ensures { OnOk result (out.new.items ≡ out.old.items ++ item_text (codes "981 6") (worth ∷ [])) }
+{
+    put(out, b"981 6")?;
+    put_number(out, u128::from(worth))?;
     put(out, b"~\n")
 }
 
@@ -105,17 +104,16 @@ fn put_stem(out: &mut Vec<u8>, stem: &Stem) -> Result<(), Memory>
 fn put_entry(out: &mut Vec<u8>, entry: &Entry) -> Result<(), Memory>
     ensures { OnOk result (out.new.items ≡ out.old.items ++ cut_text entry.now) }
 {
-    let (harvester, number) = (u128::from(entry.harvester), u128::from(entry.number));
-    put_few(
+    put_list(
         out,
         b"981 1",
-        &[harvester, number, u128::from(entry.version)],
+        &[entry.harvester, entry.number, entry.version],
     )?;
     put_stem(out, &entry.stem)?;
     put(out, b"981 5")?;
     put_logs(out, entry.cutting.logs.as_slice())?;
     put(out, b"~\n")?;
-    put_few(out, b"981 6", &[u128::from(entry.worth)])
+    put_worth(out, entry.worth)
 }
 
 /// Puts the items of a demand.
@@ -123,11 +121,10 @@ fn put_entry(out: &mut Vec<u8>, entry: &Entry) -> Result<(), Memory>
 fn put_demand(out: &mut Vec<u8>, demand: &Demand) -> Result<(), Memory>
     ensures { OnOk result (out.new.items ≡ out.old.items ++ demand_text demand.now) }
 {
-    let (harvester, number) = (u128::from(demand.harvester), u128::from(demand.number));
-    put_few(
+    put_list(
         out,
         b"982 1",
-        &[harvester, number, u128::from(demand.version)],
+        &[demand.harvester, demand.number, demand.version],
     )?;
     put_list(out, b"982 2", demand.targets.as_slice())
 }

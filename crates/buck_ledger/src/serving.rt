@@ -6,7 +6,7 @@ use crate::appraised::run_appraise;
 use crate::comparing::run_compare;
 use crate::opened::Opened;
 use crate::task::{AppraiseTask, CompareTask};
-use buck_engine::{EngineFault, Open, SeveralThreads, open_inputs};
+use buck_engine::{EngineFault, Onlooker, Open, SeveralThreads, open_inputs};
 use buck_terms::{TermsFault, open_last};
 use std::alloc::Global;
 use std::io;
@@ -29,11 +29,12 @@ fn open_files<O: Open>(
 
 /// Appraises the journals of a task's files under the owner's instruction. The files are opened in the order of the
 /// words, the owner's instruction last, before one of them is read; one that can't be opened is `Read` with its number.
-/// Else the faults are those of [`run_appraise`].
-pub fn serve_appraise<T: Threads + Sync, O: Open, W: io::Write>(
+/// Else the faults are those of [`run_appraise`]. The onlooker is shown the instruction.
+pub fn serve_appraise<T: Threads + Sync, L: Onlooker, O: Open, W: io::Write>(
     rt: &T,
     alloc: Global,
     task: &AppraiseTask<'_>,
+    onlooker: &L,
     opener: &mut O,
     out: &mut W,
 ) -> Result<(), TermsFault>
@@ -41,16 +42,17 @@ pub fn serve_appraise<T: Threads + Sync, O: Open, W: io::Write>(
         (W.contents out.old) (W.contents out.new) result }
 {
     let files = open_files(alloc, task, opener)?;
-    let workers = SeveralThreads::of(rt, task.threads);
+    let workers = SeveralThreads::of(rt, task.threads, onlooker);
     run_appraise(&workers, alloc, &task.settings, files, out)
 }
 
 /// Compares the journals of a task's files. They are opened as by [`serve_appraise`]; else the faults are those of
-/// [`run_compare`].
-pub fn serve_compare<T: Threads + Sync, O: Open, W: io::Write>(
+/// [`run_compare`]. The onlooker is shown the instruction.
+pub fn serve_compare<T: Threads + Sync, L: Onlooker, O: Open, W: io::Write>(
     rt: &T,
     alloc: Global,
     task: &CompareTask<'_>,
+    onlooker: &L,
     opener: &mut O,
     out: &mut W,
 ) -> Result<(), EngineFault>
@@ -58,7 +60,7 @@ pub fn serve_compare<T: Threads + Sync, O: Open, W: io::Write>(
         (W.contents out.old) (W.contents out.new) result }
 {
     let (mut apt, mut journals) = open_inputs(alloc, opener, task.apt, &task.journals)?;
-    let workers = SeveralThreads::of(rt, task.threads);
+    let workers = SeveralThreads::of(rt, task.threads, onlooker);
     run_compare(
         &workers,
         alloc,

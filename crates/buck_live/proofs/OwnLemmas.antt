@@ -1,7 +1,6 @@
 -- An operator's own logs, three numbers at a time.
-use Rattle.buck_live.proofs.Words.{◌≡◌, ℕ, true, ◌+◌, ◌<◌, ◌≤◌, List, [], ◌∷◌, ◌++◌, length, drop, get_or, refl, sym, ap, ◌∙◌, arith, append-nil, length-drop, leb-true, logs_of, three, are_low}
+use Rattle.buck_live.proofs.Words.{◌≡◌, ℕ, true, ◌+◌, ◌<◌, ◌≤◌, List, length, drop, get_or, sym, ap, ◌∙◌, leb-true, three, are_low}
 use Rattle.buck_record.proofs.PassLemmas.{both}
-use Rattle.buck_value.specs.declared.log.Log.{Log}
 use Rattle.buck_live.specs.declared.slots.TheConstants.{HIGHEST_ASSORTMENT}
 
 -- the numbers of the log at a place are low, and so are those after it
@@ -11,17 +10,3 @@ low_at ns i lt low =
     let first = both _ _ (sym (ap are_low (three ns i 0 lt)) ∙ low) in
     let third = both _ _ (both _ _ first.1).1 in
     (leb-true _ _ third.0, third.1)
-
-none_left : (ns : List ℕ) → length ns < 3 → logs_of ns ≡ []
-none_left [] lt = refl
-none_left (a ∷ []) lt = refl
-none_left (a ∷ b ∷ []) lt = refl
-none_left (a ∷ b ∷ c ∷ ns) lt = absurd (omega (arith, lt))
-
--- all logs were taken
-pub all_taken : (logs all : List Log) (ns : List ℕ) (i : ℕ) → length ns < i + 3 → logs ++ logs_of (drop i ns) ≡ all
-    → logs ≡ all
-all_taken logs all ns i few so_far =
-    sym (append-nil logs)
-    ∙ ap (λ (l : List Log). logs ++ l) (sym (none_left (drop i ns) (simp length-drop (omega (arith, few)))))
-    ∙ so_far

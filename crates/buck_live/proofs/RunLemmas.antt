@@ -1,19 +1,17 @@
 -- A run over an input that goes on.
-use Rattle.buck_live.proofs.Words.{ℕ, inl, inr, List, [], ◌∷◌, ◌++◌, Option, Some, None, Result, Ok, Err, length, refl, sym, subst, append-nil, le_refl, take_all, Appends-kept, Appends-nil, Appends-trans, Appends, Keeps, HistoryParts}
+use Rattle.buck_live.proofs.Words.{ℕ, Bool, true, false, inl, inr, List, [], ◌∷◌, ◌++◌, Option, Some, None, Result, Ok, Err, length, refl, sym, subst, append-nil, le_refl, take_all, Appends-kept, Appends-nil, Appends-trans, Appends, Keeps, HistoryParts}
 use Rattle.buck_live.proofs.Words.{EngineFault, Read, lines_of, AnswersLine, HasAnswered, IsLiveRun, HasLines, IsRead, IsSaid}
 use Rattle.buck_engine.specs.run.Serving.{AppendsFirst}
-use Rattle.buck_live.specs.declared.lines.End.{End}
-use Rattle.buck_live.specs.declared.lines.End.TheVariants.{Feed, Input}
 
 -- what is left
 left_of : (input : Option (List ℕ)) → (left : List (Option (List ℕ))) × HasLines input left
 left_of None = ([], tt)
 left_of (Some x) = (lines_of x, refl)
 
-left_after : (mid left : Option (List ℕ)) (line : Option (List ℕ)) (end : End) → IsRead mid left line end
+left_after : (mid left : Option (List ℕ)) (line : Option (List ℕ)) (fed : Bool) → IsRead mid left line fed
     → (more : List (Option (List ℕ))) × HasLines mid (line ∷ more)
-left_after mid left line Feed read = let more = left_of left in (more.0, read more.0 more.1)
-left_after mid left line Input read = ([], read)
+left_after mid left line true read = let more = left_of left in (more.0, read more.0 more.1)
+left_after mid left line false read = ([], read)
 
 -- all of an answer was written, and what follows was not
 pub all_said : (a b c : Option (List ℕ)) (text : List ℕ) → Appends a b text → Keeps b c → AppendsFirst a c text
@@ -34,11 +32,11 @@ pub unread : (now : HistoryParts) (mid old : Option (List ℕ)) → IsLiveRun no
 unread now mid old = let left = left_of mid in inl (refl, left.0, none_yet now mid old left.0 left.1)
 
 -- the next line was read and answered, and the answer can't be written
-pub unsaid : (now after : HistoryParts) (mid left old new line : Option (List ℕ)) (text : List ℕ) (end : End)
-    (fault : EngineFault) → IsRead mid left line end → AnswersLine now line text after
+pub unsaid : (now after : HistoryParts) (mid left old new line : Option (List ℕ)) (text : List ℕ) (fed : Bool)
+    (fault : EngineFault) → IsRead mid left line fed → AnswersLine now line text after
     → IsSaid old new text (Err fault) → IsLiveRun now mid old new (Err fault) after
-unsaid now after mid left old new line text end fault read answer said =
-    let rest = left_after mid left line end read in
+unsaid now after mid left old new line text fed fault read answer said =
+    let rest = left_after mid left line fed read in
     inr (
       said.0,
       record {
@@ -55,7 +53,7 @@ unsaid now after mid left old new line text end fault read answer said =
 
 -- it was the last
 pub ended : (now after : HistoryParts) (mid left old new line : Option (List ℕ)) (text : List ℕ)
-    → IsRead mid left line Input → AnswersLine now line text after → Appends old new text
+    → IsRead mid left line false → AnswersLine now line text after → Appends old new text
     → HasAnswered now mid [] old new after
 ended now after mid left old new line text read answer written = record {
   lines = line ∷ [];
@@ -68,7 +66,7 @@ ended now after mid left old new line text read answer written = record {
 -- and then others were answered
 one_more : (now between after : HistoryParts) (mid left old was new line : Option (List ℕ))
     (others : List (Option (List ℕ))) (text : List ℕ)
-    → IsRead mid left line Feed → AnswersLine now line text between → Appends old was text
+    → IsRead mid left line true → AnswersLine now line text between → Appends old was text
     → HasAnswered between left others was new after → HasAnswered now mid others old new after
 one_more now between after mid left old was new line others text read answer written had = record {
   lines = line ∷ had.lines;
@@ -81,7 +79,7 @@ one_more now between after mid left old was new line others text read answer wri
 -- and the run went on
 pub stepped : (now between after : HistoryParts) (mid left old was new line : Option (List ℕ)) (text : List ℕ)
     (r : Result (Unit {0}) EngineFault)
-    → IsRead mid left line Feed → AnswersLine now line text between → Appends old was text
+    → IsRead mid left line true → AnswersLine now line text between → Appends old was text
     → IsLiveRun between left was new r after → IsLiveRun now mid old new r after
 stepped now between after mid left old was new line text (Ok u) read answer said run =
     one_more now between after mid left old was new line [] text read answer said run

@@ -1,10 +1,9 @@
 -- The words that the proofs of this crate name, from where each is declared.
 pub use Rattle.std.proofs.Common.{◌≡◌, ℕ, List, length, sym, ap, subst, ◌∙◌, zero, suc, ◌+◌, Bool, false, cond, ◌<◌, inl, inr, [], ◌∷◌, ◌++◌, Option, Some, None, take, refl, arith, append-nil, take_all, true, ◌≤◌, drop, get_or, length-drop}
 pub use Rattle.std.proofs.Common.{Result, Ok, Err, le_refl, rules, vec_capacity, ◌*◌}
-pub use Rattle.buck_book.specs.History.{HistoryParts, in_force}
-pub use Rattle.buck_book.specs.Book.{demand_of, entry_of}
-pub use Rattle.buck_cutter.specs.Cut.{AnyPrices, OfPrices, HasCut, HasRetargeted, StaysByRule}
-pub use Rattle.buck_live.specs.Answers.{CutsStem, TakesTargets, AnswersLine}
+pub use Rattle.buck_book.specs.History.{HistoryParts}
+pub use Rattle.buck_cutter.specs.Cut.{AnyPrices, StaysByRule}
+pub use Rattle.buck_live.specs.Answers.{AnswersLine}
 pub use Rattle.std.proofs.lemmas.Bool.{cases_lt, leb-true}
 pub use Rattle.std.proofs.lemmas.List.{length-take}
 pub use Rattle.std.proofs.KnownBytes.{Consumes-trans, Appends-kept, Appends-nil, Appends-trans, Keeps-refl}
@@ -20,5 +19,4 @@ pub use Rattle.buck_engine.specs.declared.fault.EngineFault.{EngineFault}
 pub use Rattle.buck_engine.specs.declared.fault.EngineFault.TheVariants.{Read}
 pub use Rattle.buck_live.specs.Live.{HasAnswered, IsLiveRun}
 pub use Rattle.buck_live.specs.inner.Running.{IsSaid, GoesOn}
-pub use Rattle.buck_book.specs.Pricing.{AreAnswers}
 pub use Rattle.buck_live.specs.Serving.{AnswersLive, KeepsJournal}

@@ -6,8 +6,8 @@
 --               the first
 --   STEM ..     a stem: its four items, as in a stem file
 --   PREVIEW     the stem is previewed                 1                  1
---   OWN         the logs that an operator would cut,  three for each     0 to HIGHEST
---               each as start, length, assortment     of at most         in turn
+--   OWN         the logs that an operator would cut,  three for each     0 to the highest
+--               each as start, length, assortment     of at most         of each in turn
 --                                                     MOST_OWN
 --   TARGETS     new targets                           any                any
 --
@@ -23,7 +23,8 @@ use Rattle.buck_record.specs.checking.Table.{count_in, first_missing, first_twic
 use Rattle.buck_record.specs.checking.Check.{◌>>=◌, check, none_of}
 use Rattle.buck_record.specs.checking.Rules.{of_slot, has_no_strays, numbers_in, all_within, all_in_range}
 use Rattle.buck_record.specs.writing.Written.{spelled}
-use Rattle.buck_stem.specs.declared.file.slots.TheConstants.{STEM, NEEDED}
+use Rattle.buck_apt.specs.declared.slots.TheConstants.{LENGTHS}
+use Rattle.buck_stem.specs.declared.file.slots.TheConstants.{STEM, STARTS, NEEDED}
 use Rattle.buck_stem.specs.declared.file.fault.StmFault.{StmFault}
 use Rattle.buck_stem.specs.declared.file.fault.StmFault.TheVariants.{Head, Missing, Twice, Digits, Range, Order, Count}
 use Rattle.buck_stem.specs.file.Faults.{stm_numbers}
@@ -31,7 +32,7 @@ use Rattle.buck_stem.specs.Stem.{StemParts}
 use Rattle.buck_stem.specs.file.Stm.{stm_of}
 use Rattle.buck_value.specs.declared.log.Log.{Log}
 use Rattle.buck_journal.specs.reading.Journal.{logs_of}
-use Rattle.buck_live.specs.declared.slots.TheConstants.{HARVESTER, PREVIEW, OWN, HIGHEST_START, HIGHEST_LENGTH, HIGHEST_ASSORTMENT, MOST_OWN, TARGETS, STEM_ITEMS, AFTER_STEM, ASKED, TABLE}
+use Rattle.buck_live.specs.declared.slots.TheConstants.{HARVESTER, PREVIEW, OWN, HIGHEST_ASSORTMENT, MOST_OWN, TARGETS, STEM_ITEMS, AFTER_STEM, TABLE}
 use Rattle.buck_live.specs.declared.request.Asked.{Asked}
 use Rattle.buck_live.specs.declared.request.Asked.TheVariants.{Stem, Preview, Own, Targets}
 use Rattle.buck_live.specs.declared.request.Request.{Request}
@@ -59,7 +60,7 @@ unfoldable pub harvester_in : List ItemParts → Result ℕ StmFault
 harvester_in items = if not (has HARVESTER items) then Ok 1 else (do
   numbers ← numbers_in Digits HARVESTER items
   _ ← check (all_within 1 64 numbers) (of_slot Range HARVESTER)
-  _ ← check (has_no_strays HARVESTER ASKED items) (of_slot Order HARVESTER)
+  _ ← check (has_no_strays HARVESTER TABLE items) (of_slot Order HARVESTER)
   _ ← check (length numbers == 1) (of_slot Count HARVESTER)
   Ok (slice_index numbers 0))
 
@@ -96,7 +97,7 @@ in_turn first second third (n ∷ ns) = nat_le n first && in_turn second third f
 
 -- no start, length or assortment is above the highest; those of a last log that isn't whole take part
 abbrev pub are_low : List ℕ → Bool
-are_low numbers = in_turn HIGHEST_START HIGHEST_LENGTH HIGHEST_ASSORTMENT numbers
+are_low numbers = in_turn STARTS.high LENGTHS.high HIGHEST_ASSORTMENT numbers
 
 -- Lines 5 to 8 of an operator's own logs, if there are any.
 unfoldable pub own_in : List ItemParts → Result (Option (List Log)) StmFault
@@ -127,17 +128,13 @@ abbrev pub asked_of : StemParts → Bool → Option (List Log) → Asked
 asked_of stem previewed (Some logs) = Own stem logs
 asked_of stem previewed None = if previewed then Preview stem else Stem stem
 
--- Lines 5 to 8 of a stem, which is refused as its stem file is, and of what else is asked of it.
-unfoldable pub stem_in : List ItemParts → Result Asked StmFault
-stem_in items = do
-  found ← both (only_stem (stm_of (stem_file items))) (both (preview_in items) (own_in items))
-  Ok (asked_of found.0 found.1.0 found.1.1)
-
--- Lines 5 to 8 of what is asked for: numbers as targets, or else a stem.
+-- Lines 5 to 8 of what is asked for: numbers as targets, or else a stem, which is refused as its stem file is, and what
+-- else is asked of it.
 unfoldable pub asked_in : List ItemParts → Result Asked StmFault
 asked_in items =
-    if not (has TARGETS items) then stem_in items
-    else (numbers_in Digits TARGETS items >>= λ targets. Ok (Targets targets))
+    if has TARGETS items then (numbers_in Digits TARGETS items >>= λ targets. Ok (Targets targets)) else (do
+      found ← both (only_stem (stm_of (stem_file items))) (both (preview_in items) (own_in items))
+      Ok (asked_of found.0 found.1.0 found.1.1))
 
 -- what the items of a line ask for, if there are any
 unfoldable pub requested : List ItemParts → Result (Option Request) StmFault

@@ -26,19 +26,6 @@ KeepsJournal OfJournal h (Err fault) =
     ((fault ≡ Memory) × OfJournal Keeps)
     ⊎ ((fault ≡ Write) × OfJournal (λ a b. AppendsSome a b (journal_text h.sheets h.postings)))
 
--- requests were answered by a book of an instruction, whose history is lawful, with prices of which this holds, and
--- then its journal was written, however the run over the requests ended; its fault comes before that of the run
-pub record IsLive (ByRule : HistoryParts → Type 0) (i : InstructionParts) (input : Option (List ℕ))
-    (OfJournal : OfWriter) (old new : Option (List ℕ)) (outcome : Result (Unit {0}) EngineFault) : Type 0 where
-  pub history : HistoryParts
-  pub lawful : IsLawful history
-  pub by_rule : ByRule history
-  pub ran : Result (Unit {0}) EngineFault
-  pub kept : Result (Unit {0}) EngineFault
-  pub run : IsLiveRun (opening i) input old new ran history
-  pub journal : KeepsJournal OfJournal history kept
-  pub outcome_is : outcome ≡ result_and kept ran
-
 -- the instruction is refused, or memory runs out before the first request is read; nothing is read of the input then,
 -- and nothing is written
 pub record IsUnopened (apt : Option (List ℕ)) (Unread : Type 0) (OfJournal : OfWriter) (old new : Option (List ℕ))
@@ -50,12 +37,21 @@ pub record IsUnopened (apt : Option (List ℕ)) (Unread : Type 0) (OfJournal : O
   pub no_journal : OfJournal Keeps
   pub no_answer : Keeps old new
 
--- requests are answered by the instruction that a file has, with the task's numbers put in, and by the task's rule
+-- requests are answered by the instruction that a file has, with the task's numbers put in, and by the task's rule, in
+-- a book whose history is lawful; and then its journal is written, however the run over the requests ended: its fault
+-- comes before that of the run
 pub record IsOpened (task : LiveTask) (apt input : Option (List ℕ)) (OfJournal : OfWriter)
     (old new : Option (List ℕ)) (outcome : Result (Unit {0}) EngineFault) : Type 0 where
   pub own : InstructionParts
   pub apt_says : Says apt_of apt (Ok own)
-  pub live : IsLive (FollowsRule task.rule) (with_settings task.settings own) input OfJournal old new outcome
+  pub history : HistoryParts
+  pub lawful : IsLawful history
+  pub by_rule : FollowsRule task.rule history
+  pub ran : Result (Unit {0}) EngineFault
+  pub kept : Result (Unit {0}) EngineFault
+  pub run : IsLiveRun (opening (with_settings task.settings own)) input old new ran history
+  pub journal : KeepsJournal OfJournal history kept
+  pub outcome_is : outcome ≡ result_and kept ran
 
 abbrev pub AnswersLive : LiveTask → Option (List ℕ) → Option (List ℕ) → Type 0 → OfWriter → Option (List ℕ)
     → Option (List ℕ) → Result (Unit {0}) EngineFault → Type 0

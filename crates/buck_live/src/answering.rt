@@ -9,13 +9,13 @@ ghost use Rattle.buck_book.specs.declared.posting.Posting.TheVariants.{Demand};
 ghost use Rattle.buck_cutter.specs.Cut.{StaysByRule};
 ghost use Rattle.buck_engine.specs.text.Bucking.{log_line, stem_lines};
 ghost use Rattle.buck_engine.specs.text.Report.{posting_line};
-ghost use Rattle.buck_live.specs.Answers.{AnswersLine, JudgesOwn, PreviewsStem, own_line, preview_lines, targets_numbers};
+ghost use Rattle.buck_live.specs.Answers.{AnswersLine, JudgesOwn, PreviewsStem, own_line, targets_numbers};
 ghost use Rattle.buck_live.specs.inner.Answering.{AnswersOne, told};
 ghost use Rattle.buck_live.specs.inner.Reading.{held_line};
 ghost use Rattle.buck_book.specs.declared.posting.TheConstants.{MOST_POSTINGS};
 
-use crate::lines::{End, whole};
-use crate::request::{Asked, read_request};
+use crate::lines::whole;
+use crate::request::{Asked, Request, read_request};
 use buck_book::{Book, CutFault, DemandRefusal, Plan, TargetsFault};
 use buck_cutter::Cutter;
 use buck_engine::{EngineFault, put_logs, put_stem};
@@ -27,19 +27,14 @@ use buck_value::Log;
 use std::alloc::Global;
 use std::sync::Arc;
 
-/// Puts the lines of a plan's logs.
 #[tactic(auto, using(buck_engine::proofs::TextLemmas::all_allowed))]
 fn put_planned(out: &mut Vec<u8>, plan: &Plan) -> Result<(), Memory>
     ensures put { OnOk result
         (out.new.items ≡ out.old.items ++ flat_map (log_line plan.now.sheet plan.now.stem) plan.now.logs) }
     ensures plan { IsPlan plan.now }
 {
-    put_logs(
-        out,
-        plan.sheet(),
-        plan.stem(),
-        plan.cutting().logs.as_slice(),
-    )
+    let logs = plan.cutting().logs.as_slice();
+    put_logs(out, plan.sheet(), plan.stem(), logs)
 }
 
 /// The lines of a stem that is cut as planned.
@@ -49,29 +44,8 @@ fn stem_text(alloc: Global, plan: &Plan) -> Result<Vec<u8>, Memory>
         text.items ≡ stem_lines plan.now.sheet (record { stem = plan.now.stem; logs = plan.now.logs })) }
 {
     let mut text = Vec::new(alloc);
-    put_stem(
-        &mut text,
-        plan.stem(),
-        plan.cutting().logs.len(),
-        plan.worth(),
-    )?;
-    put_planned(&mut text, plan)?;
-    Ok(text)
-}
-
-/// The lines of a stem that is previewed.
-fn preview_text(alloc: Global, plan: &Plan) -> Result<Vec<u8>, Memory>
-    ensures { IfOk result (λ text. text.items ≡ preview_lines plan.now.sheet plan.now.stem plan.now.logs) }
-{
-    let mut text = Vec::new(alloc);
-    let stem = plan.stem();
-    let numbers = [
-        u128::from(stem.number()),
-        u128::from(stem.length()),
-        plan.cutting().logs.len() as u128,
-        u128::from(plan.worth()),
-    ];
-    put_line(&mut text, b"PREVIEW", &numbers)?;
+    let logs = plan.cutting().logs.len();
+    put_stem(&mut text, plan.stem(), logs, plan.worth())?;
     put_planned(&mut text, plan)?;
     Ok(text)
 }
@@ -82,7 +56,17 @@ fn preview<F: Drop>(alloc: Global, cutter: &mut Cutter<F>, stem: Stem) -> Result
     ensures previewed { IfOk result (λ text. PreviewsStem cutter.old.history stem text.items) }
 {
     let plan = cutter.preview(alloc, Arc::new(alloc, stem)?)?;
-    preview_text(alloc, &plan)
+    let stem = plan.stem();
+    let numbers = [
+        u128::from(stem.number()),
+        u128::from(stem.length()),
+        plan.cutting().logs.len() as u128,
+        u128::from(plan.worth()),
+    ];
+    let mut text = Vec::new(alloc);
+    put_line(&mut text, b"PREVIEW", &numbers)?;
+    put_planned(&mut text, &plan)?;
+    Ok(text)
 }
 
 /// The line of a cutting of an operator's own, by the worth of the best one.
@@ -99,13 +83,8 @@ fn own_text(
     let number = u128::from(stem.number());
     match judged {
         Judged::Admissible { worth } => {
-            let numbers = [
-                number,
-                own.len() as u128,
-                u128::from(worth),
-                u128::from(best),
-            ];
-            put_line(&mut text, b"OWN", &numbers)?;
+            let (logs, worth) = (own.len() as u128, u128::from(worth));
+            put_line(&mut text, b"OWN", &[number, logs, worth, u128::from(best)])?;
         }
         Judged::Refused { log, reason } => {
             text.extend_from_slice(b"OWN")?;
@@ -161,7 +140,6 @@ fn cut<F: Fn(&Standing) -> u64 + Drop>(
     }
 }
 
-/// The line of the demand that a harvester commits next.
 fn demand_text<F: Drop>(alloc: Global, book: &Book<F>, harvester: u32) -> Result<Vec<u8>, Memory>
     requires harvester { (0 < harvester) × (harvester ≤ 64) }
     ensures { IfOk result (λ text. (targets : List ℕ) → text.items
@@ -178,7 +156,6 @@ fn demand_text<F: Drop>(alloc: Global, book: &Book<F>, harvester: u32) -> Result
     Ok(text)
 }
 
-/// The line of targets that are refused.
 fn refused_text(alloc: Global, fault: TargetsFault) -> Result<Vec<u8>, Memory>
     ensures { IfOk result (λ text. text.items ≡ line_of (codes "targets fault") (targets_numbers fault)) }
 {
@@ -219,52 +196,34 @@ fn retarget<F: Fn(&Standing) -> u64 + Drop>(
     }
 }
 
-/// Answers what is asked for: a posting if the history has room, and whatever posts nothing.
-#[tactic(auto, using(buck_cutter::proofs::Adding::as_before))]
-fn answer_asked<F: Fn(&Standing) -> u64 + Drop>(
-    alloc: Global,
-    cutter: &mut Cutter<F>,
-    harvester: u32,
-    asked: Asked,
-) -> Result<Vec<u8>, EngineFault>
-    requires answers { Answers F.Fn cutter.old.rule }
-    requires capacity { cutter.old.capacity ≡ MOST_POSTINGS }
-    requires harvester { (0 < harvester) × (harvester ≤ 64) }
-    ensures rule { cutter.new.rule ≡ cutter.old.rule }
-    ensures capacity { cutter.new.capacity ≡ cutter.old.capacity }
-    ensures answered { AnswersOne cutter.old.history harvester asked (told result) cutter.new.history }
-    ensures given { StaysByRule F.Fn cutter.old cutter.new }
-{
-    match asked {
-        Asked::Stem(stem) => cut(alloc, cutter, harvester, stem),
-        Asked::Preview(stem) => Ok(preview(alloc, cutter, stem)?),
-        Asked::Own { stem, logs } => Ok(judge_own(alloc, cutter, stem, logs.as_slice())?),
-        Asked::Targets(targets) => retarget(alloc, cutter, harvester, targets),
-    }
-}
-
-/// Answers a line, of which these bytes are held, by what ended it.
+/// Answers a line, of which these bytes are held; a line feed ended it, or the input.
 #[tactic(auto, using(buck_cutter::proofs::Adding::as_before))]
 pub(crate) fn answer<F: Fn(&Standing) -> u64 + Drop>(
     alloc: Global,
     cutter: &mut Cutter<F>,
     line: &[u8],
-    end: End,
+    fed: bool,
 ) -> Result<Vec<u8>, EngineFault>
     requires answers { Answers F.Fn cutter.old.rule }
     requires capacity { cutter.old.capacity ≡ MOST_POSTINGS }
     ensures rule { cutter.new.rule ≡ cutter.old.rule }
     ensures capacity { cutter.new.capacity ≡ cutter.old.capacity }
-    ensures answered { AnswersLine cutter.old.history (held_line end line.now) (told result) cutter.new.history }
+    ensures answered { AnswersLine cutter.old.history (held_line fed line.now) (told result) cutter.new.history }
     ensures given { StaysByRule F.Fn cutter.old cutter.new }
 {
-    let Some(line) = whole(line, end) else {
+    let Some(line) = whole(line, fed) else {
         return Err(EngineFault::Read { file: 1 });
     };
-    match read_request(alloc, line) {
-        Ok(None) => Ok(Vec::new(alloc)),
-        Ok(Some(request)) => answer_asked(alloc, cutter, request.harvester, request.asked),
-        Err(StmFault::Memory) => Err(EngineFault::Memory),
-        Err(fault) => Err(EngineFault::Stm { file: 1, fault }),
+    let Request { harvester, asked } = match read_request(alloc, line) {
+        Ok(None) => return Ok(Vec::new(alloc)),
+        Ok(Some(request)) => request,
+        Err(StmFault::Memory) => return Err(EngineFault::Memory),
+        Err(fault) => return Err(EngineFault::Stm { file: 1, fault }),
+    };
+    match asked {
+        Asked::Stem(stem) => cut(alloc, cutter, harvester, stem),
+        Asked::Preview(stem) => Ok(preview(alloc, cutter, stem)?),
+        Asked::Own { stem, logs } => Ok(judge_own(alloc, cutter, stem, logs.as_slice())?),
+        Asked::Targets(targets) => retarget(alloc, cutter, harvester, targets),
     }
 }

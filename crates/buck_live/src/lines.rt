@@ -10,15 +10,6 @@ use std::io;
 /// The most bytes that a line may have before its line feed.
 pub(crate) const LONGEST: usize = 1_048_576;
 
-/// What ended a line.
-#[derive(Clone, Copy, Debug, PartialEq, Eq, Drop)]
-pub(crate) enum End {
-    /// A line feed.
-    Feed,
-    /// The end of the input.
-    Input,
-}
-
 /// The next byte of the input, or none at its end. Nothing is read beyond it.
 fn next_byte<R: io::Read>(input: &mut R) -> io::Result<Option<u8>>
     ensures { IfOk result (λ o. ReadsByte (R.remaining input.old) (R.remaining input.new) o) }
@@ -45,19 +36,19 @@ fn hold(line: &mut Vec<u8>, byte: u8)
 }
 
 /// Reads a line up to the line feed or the end of the input that ends it, and no further, and holds its bytes: one more
-/// than a line may have, if it is too long. The answer is what ended it.
-pub(crate) fn read_bytes<R: io::Read>(input: &mut R, line: &mut Vec<u8>) -> io::Result<End>
+/// than a line may have, if it is too long. The answer is whether a line feed ended it.
+pub(crate) fn read_bytes<R: io::Read>(input: &mut R, line: &mut Vec<u8>) -> io::Result<bool>
     requires room { longest_line < vec_capacity line.old }
     ensures capacity { vec_capacity line.new ≡ vec_capacity line.old }
-    ensures read { IfOk result (λ end.
-        IsRead (R.remaining input.old) (R.remaining input.new) (held_line end line.new.items) end) }
+    ensures read { IfOk result (λ fed.
+        IsRead (R.remaining input.old) (R.remaining input.new) (held_line fed line.new.items) fed) }
 {
     line.clear();
     'bytes: for _ in 0..u64::MAX {
         match next_byte(input) {
             Err(error) => return Err(error),
-            Ok(None) => return Ok(End::Input),
-            Ok(Some(b'\n')) => return Ok(End::Feed),
+            Ok(None) => return Ok(false),
+            Ok(Some(b'\n')) => return Ok(true),
             Ok(Some(byte)) => hold(line, byte),
         }
     }
@@ -70,7 +61,6 @@ fn is_white(byte: u8) -> bool
     byte == b' ' || byte == b'\t' || byte == b'\n' || byte == b'\r'
 }
 
-/// The last byte that isn't white.
 fn last_byte(bytes: &[u8]) -> Option<u8>
     ensures { result ≡ last_byte bytes.now }
 {
@@ -87,15 +77,15 @@ fn is_finished(bytes: &[u8]) -> bool
     }
 }
 
-/// The line that is held, if it isn't too long or cut off.
-pub(crate) fn whole<'a>(line: &'a [u8], end: End) -> Option<&'a [u8]>
-    ensures { option_map (λ l. l.now) result ≡ held_line end line.now }
+/// The line that is held, if it isn't too long or cut off; a line feed ended it, or the input.
+pub(crate) fn whole<'a>(line: &'a [u8], fed: bool) -> Option<&'a [u8]>
+    ensures { option_map (λ l. l.now) result ≡ held_line fed line.now }
 {
     if line.len() > LONGEST {
         return None;
     }
-    match end {
-        End::Feed => Some(line),
-        End::Input => { if is_finished(line) { Some(line) } else { None } }
+    if fed {
+        return Some(line);
     }
+    if is_finished(line) { Some(line) } else { None }
 }

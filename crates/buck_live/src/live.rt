@@ -10,7 +10,7 @@ ghost use Rattle.buck_live.specs.inner.Answering.{told};
 ghost use Rattle.buck_live.specs.inner.Running.{IsSaid};
 
 use crate::answering::answer;
-use crate::lines::{End, LONGEST, read_bytes};
+use crate::lines::{LONGEST, read_bytes};
 use crate::replies::Replies;
 use buck_apt::Instruction;
 use buck_book::MOST_POSTINGS;
@@ -97,17 +97,18 @@ fn answer_all<F: Fn(&Standing) -> u64 + Drop, R: io::Read, W: Replies>(
     ensures given { StaysByRule F.Fn cutter.old cutter.new }
 {
     'requests: for _ in 0..u64::MAX {
-        let Ok(end) = read_bytes(input, line) else {
+        let Ok(fed) = read_bytes(input, line) else {
             return Err(EngineFault::Read { file: 1 });
         };
         let held = line.as_slice();
-        let answer = answer(alloc, cutter, held, end);
+        let answer = answer(alloc, cutter, held, fed);
         match say(out, held, cutter.book().instruction(), &answer) {
             Err(fault) => return Err(fault),
-            Ok(()) => match end {
-                End::Input => return Ok(()),
-                End::Feed => {}
-            },
+            Ok(()) => {
+                if !fed {
+                    return Ok(());
+                }
+            }
         }
     }
     Err(EngineFault::Read { file: 1 })

@@ -1,7 +1,6 @@
 //! What a line of the input asks for.
-ghost use Rattle.std.specs.Prelude.{◌≡◌, ◌++◌, ◌<◌, ◌≤◌, ◌*◌, ◌%◌, ◌==◌, ◌&&◌, true, Ok, IfOk, IfSome, OnOk};
-ghost use Rattle.buck_record.specs.Reading.{Gives, with_fault};
-ghost use Rattle.buck_record.specs.bytes.Record.{items_of};
+ghost use Rattle.std.specs.Prelude.{◌≡◌, ◌++◌, ◌<◌, ◌≤◌, ◌*◌, ◌%◌, ◌==◌, ◌&&◌, true, length, Ok, IfOk, IfSome, OnOk};
+ghost use Rattle.buck_record.specs.Reading.{Gives};
 ghost use Rattle.buck_record.specs.checking.Table.{is_in};
 ghost use Rattle.buck_stem.specs.file.Faults.{stm_numbers};
 ghost use Rattle.buck_stem.specs.file.Stm.{stm_of};
@@ -9,7 +8,6 @@ ghost use Rattle.buck_journal.specs.reading.Journal.{logs_of};
 ghost use Rattle.buck_live.specs.Request.{
   are_low,
   asked_in,
-  asked_of,
   both,
   earlier,
   harvester_in,
@@ -22,19 +20,18 @@ ghost use Rattle.buck_live.specs.Request.{
   requested,
   single,
   stem_file,
-  stem_in,
   stem_text,
 };
 
 use crate::slots::{
-    AFTER_STEM, ASKED, HARVESTER, HIGHEST_ASSORTMENT, HIGHEST_LENGTH, HIGHEST_START, MOST_OWN, OWN,
-    PREVIEW, STEM_ITEMS, TABLE, TARGETS,
+    AFTER_STEM, HARVESTER, HIGHEST_ASSORTMENT, MOST_OWN, OWN, PREVIEW, STEM_ITEMS, TABLE, TARGETS,
 };
+use buck_apt::slots::LENGTHS;
 use buck_record::check::{all_absent, all_single, all_there, check, is_there};
 use buck_record::rules::{all_in_range, all_within, numbers_in};
 use buck_record::table::front;
 use buck_record::{FormFault, Listed, Memory, Numbered, Piece, RecordFault, pieces, put_numbers};
-use buck_stem::slots::{NEEDED, STEM};
+use buck_stem::slots::{NEEDED, STARTS, STEM};
 use buck_stem::{Stem, StmFault, read_stm};
 use buck_value::Log;
 use std::alloc::{AllocError, Global};
@@ -72,10 +69,8 @@ pub struct Request {
 fn present<'a>(items: &'a [Piece<'a>]) -> Result<(), StmFault>
     ensures { result ≡ present items.now }
 {
-    check(
-        all_absent(&AFTER_STEM, front(items, STEM)),
-        StmFault::missing(STEM),
-    )?;
+    let in_order = all_absent(&AFTER_STEM, front(items, STEM));
+    check(in_order, StmFault::missing(STEM))?;
     if is_there(items, STEM) {
         all_there(&NEEDED, items)
     } else {
@@ -105,15 +100,12 @@ fn harvester_in<'a>(alloc: Global, items: &'a [Piece<'a>]) -> Result<u32, StmFau
     let numbers = numbers_in::<StmFault>(alloc, HARVESTER, items)?;
     let numbers = numbers.as_slice();
     check(all_within(1, 64, numbers), StmFault::range(HARVESTER))?;
-    check(
-        all_absent(&ASKED, front(items, HARVESTER)),
-        StmFault::order(HARVESTER),
-    )?;
+    let in_order = all_absent(&TABLE, front(items, HARVESTER));
+    check(in_order, StmFault::order(HARVESTER))?;
     check(numbers.len() == 1, StmFault::count(HARVESTER))?;
     Ok(numbers[0])
 }
 
-/// Whether it is an item of a stem.
 fn is_of_stem(item: &Piece<'_>) -> bool
     ensures { result ≡ is_in STEM_ITEMS item.now }
 {
@@ -134,7 +126,6 @@ fn put_stem_item(out: &mut Vec<u8>, item: &Piece<'_>) -> Result<(), Memory>
     Ok(())
 }
 
-/// The stem file that has these items of a stem.
 fn stem_file(alloc: Global, items: &[Piece<'_>]) -> Result<Vec<u8>, Memory>
     ensures { IfOk result (λ text. text.items ≡ stem_file items.now) }
 {
@@ -146,32 +137,19 @@ fn stem_file(alloc: Global, items: &[Piece<'_>]) -> Result<Vec<u8>, Memory>
     Ok(text)
 }
 
-/// The stem of a stem file that has one.
-fn only_stem(mut stems: Vec<Stem>) -> Result<Stem, StmFault>
-    ensures { result ≡ only_stem (Ok stems.items) }
-{
-    if stems.len() != 1 {
-        return Err(StmFault::missing(STEM));
-    }
-    match stems.pop() {
-        Some(stem) => Ok(stem),
-        None => Err(StmFault::missing(STEM)),
-    }
-}
-
 /// The stem that the items of a stem are, as a stem file has it.
 fn read_stem(alloc: Global, items: &[Piece<'_>]) -> Result<Stem, StmFault>
     ensures { Gives StmFault.Memory result (only_stem (stm_of (stem_file items.now))) }
 {
-    let Ok(text) = stem_file(alloc, items) else {
-        return Err(StmFault::Memory);
-    };
+    let text = stem_file(alloc, items).or(Err(StmFault::Memory))?;
     // By the reader of stem files: a parser of its own would state each maximum again.
-    let stems = read_stm(alloc, text.as_slice())?;
-    only_stem(stems)
+    let mut stems = read_stm(alloc, text.as_slice())?;
+    if stems.len() != 1 {
+        return Err(StmFault::missing(STEM));
+    }
+    stems.pop().ok_or(StmFault::missing(STEM))
 }
 
-/// Whether a preview is asked for.
 #[tactic(auto, unfolding(crate::specs::Request::preview_in))]
 fn preview_in<'a>(alloc: Global, items: &'a [Piece<'a>]) -> Result<bool, StmFault>
     ensures { Gives StmFault.Memory result (preview_in items.now) }
@@ -190,8 +168,8 @@ fn preview_in<'a>(alloc: Global, items: &'a [Piece<'a>]) -> Result<bool, StmFaul
 fn are_low(numbers: &[u32]) -> bool
     ensures { result ≡ are_low numbers.now }
 {
-    let mut first = HIGHEST_START;
-    let mut second = HIGHEST_LENGTH;
+    let mut first = STARTS.high;
+    let mut second = LENGTHS.high;
     let mut third = HIGHEST_ASSORTMENT;
     for number in numbers {
         if *number > first {
@@ -204,7 +182,8 @@ fn are_low(numbers: &[u32]) -> bool
 
 /// Starts, lengths and assortments, three by three.
 fn logs_of(alloc: Global, numbers: &[u32]) -> Result<Vec<Log>, AllocError>
-    requires { are_low numbers.now ≡ true }
+    requires low { are_low numbers.now ≡ true }
+    requires whole { length numbers.now % 3 ≡ 0 }
     ensures { IfOk result (λ logs. logs.items ≡ logs_of numbers.now) }
 {
     let mut logs = Vec::with_capacity(alloc, numbers.len() / 3)?;
@@ -218,7 +197,6 @@ fn logs_of(alloc: Global, numbers: &[u32]) -> Result<Vec<Log>, AllocError>
     Ok(logs)
 }
 
-/// An operator's own logs, if there are any.
 #[tactic(auto, unfolding(crate::specs::Request::own_in))]
 fn own_in<'a>(alloc: Global, items: &'a [Piece<'a>]) -> Result<Option<Listed<Log>>, StmFault>
     ensures { Gives StmFault.Memory result (own_in items.now) }
@@ -231,16 +209,14 @@ fn own_in<'a>(alloc: Global, items: &'a [Piece<'a>]) -> Result<Option<Listed<Log
     if !are_low(numbers) {
         return Err(StmFault::range(OWN));
     }
-    let count = numbers.len();
-    check(
-        count % 3 == 0 && count <= 3 * MOST_OWN,
-        StmFault::count(OWN),
-    )?;
+    if numbers.len() % 3 != 0 {
+        return Err(StmFault::count(OWN));
+    }
+    check(numbers.len() <= 3 * MOST_OWN, StmFault::count(OWN))?;
     Ok(Some(Listed::of(logs_of(alloc, numbers)?)))
 }
 
-/// The number of a fault's line.
-fn line_number(fault: &StmFault) -> u64
+fn line_of(fault: &StmFault) -> u64
     ensures { result ≡ number_of_line (stm_numbers fault.now) }
 {
     match fault.numbers().as_slice() {
@@ -249,18 +225,12 @@ fn line_number(fault: &StmFault) -> u64
     }
 }
 
-/// The fault of the earlier line.
 fn earlier(e: StmFault, f: StmFault) -> StmFault
     ensures { result ≡ earlier e f }
 {
-    if line_number(&e) <= line_number(&f) {
-        e
-    } else {
-        f
-    }
+    if line_of(&e) <= line_of(&f) { e } else { f }
 }
 
-/// What two items say, or the fault of the earlier line.
 fn both<A: Drop, B: Drop>(
     a: Result<A, StmFault>,
     b: Result<B, StmFault>,
@@ -272,17 +242,6 @@ fn both<A: Drop, B: Drop>(
         (Err(fault), Ok(_)) => Err(fault),
         (Ok(_), Err(fault)) => Err(fault),
         (Err(e), Err(f)) => Err(earlier(e, f)),
-    }
-}
-
-/// What is asked of a stem.
-fn asked_of(stem: Stem, previewed: bool, own: Option<Listed<Log>>) -> Asked
-    ensures { result ≡ asked_of stem previewed own }
-{
-    match own {
-        Some(logs) => Asked::Own { stem, logs },
-        None if previewed => Asked::Preview(stem),
-        None => Asked::Stem(stem),
     }
 }
 
@@ -298,27 +257,23 @@ fn looks_in<'a>(
     both(preview, own)
 }
 
-/// A stem, and what is asked of it; or the fault of the earliest line.
-#[tactic(auto, unfolding(crate::specs::Request::stem_in))]
-fn stem_in<'a>(alloc: Global, items: &'a [Piece<'a>]) -> Result<Asked, StmFault>
-    ensures { Gives StmFault.Memory result (stem_in items.now) }
-{
-    let stem = read_stem(alloc, items);
-    let looks = looks_in(alloc, items);
-    let (stem, (previewed, own)) = both(stem, looks)?;
-    Ok(asked_of(stem, previewed, own))
-}
-
-/// What is asked for.
+/// What is asked for: numbers as targets, or else a stem; or the fault of the earliest line.
 #[tactic(auto, unfolding(crate::specs::Request::asked_in))]
 fn asked_in<'a>(alloc: Global, items: &'a [Piece<'a>]) -> Result<Asked, StmFault>
     ensures { Gives StmFault.Memory result (asked_in items.now) }
 {
-    if !is_there(items, TARGETS) {
-        return stem_in(alloc, items);
+    if is_there(items, TARGETS) {
+        let targets = numbers_in::<StmFault>(alloc, TARGETS, items)?;
+        return Ok(Asked::Targets(targets));
     }
-    let targets = numbers_in::<StmFault>(alloc, TARGETS, items)?;
-    Ok(Asked::Targets(targets))
+    let stem = read_stem(alloc, items);
+    let looks = looks_in(alloc, items);
+    let (stem, (previewed, own)) = both(stem, looks)?;
+    Ok(match own {
+        Some(logs) => Asked::Own { stem, logs },
+        None if previewed => Asked::Preview(stem),
+        None => Asked::Stem(stem),
+    })
 }
 
 /// What items ask for.
@@ -338,17 +293,6 @@ fn requested<'a>(alloc: Global, items: &'a [Piece<'a>]) -> Result<Option<Request
     Ok(Some(Request { harvester, asked }))
 }
 
-/// The items of a line.
-fn line_items<'a>(alloc: Global, line: &'a [u8]) -> Result<Listed<Piece<'a>>, StmFault>
-    ensures { Gives StmFault.Memory result (with_fault StmFault.Head (items_of line.now)) }
-{
-    match pieces(alloc, line) {
-        Ok(found) => Ok(Listed::of(found)),
-        Err(RecordFault::Head { item }) => Err(StmFault::Head { item }),
-        Err(_) => Err(StmFault::Memory),
-    }
-}
-
 /// Reads the request of a line; nothing if it has no item. Refused with the first fault that applies, as a stem file
 /// is, items and words counted from 1 in the line; and as `Memory` if an allocation failed.
 #[tactic(auto, unfolding(crate::specs::Request::request_of))]
@@ -356,6 +300,9 @@ pub fn read_request(alloc: Global, line: &[u8]) -> Result<Option<Request>, StmFa
     ensures asked { Gives StmFault.Memory result (request_of line.now) }
     ensures range { IfOk result (λ r. IfSome r (λ q. (0 < q.harvester) × (q.harvester ≤ 64))) }
 {
-    let items = line_items(alloc, line)?;
-    requested(alloc, items.as_slice())
+    match pieces(alloc, line) {
+        Ok(items) => requested(alloc, items.as_slice()),
+        Err(RecordFault::Head { item }) => Err(StmFault::Head { item }),
+        Err(_) => Err(StmFault::Memory),
+    }
 }

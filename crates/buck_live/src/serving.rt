@@ -1,6 +1,8 @@
 //! Whole runs of requests.
-ghost use Rattle.std.specs.Prelude.{◌≡◌, IfOk, IfErr};
+ghost use Rattle.std.specs.Prelude.{◌≡◌, ℕ, IfErr, IfOk, List, Ok, Option};
+ghost use Rattle.buck_apt.specs.Apt.{apt_of};
 ghost use Rattle.buck_engine.specs.declared.fault.EngineFault.{EngineFault};
+ghost use Rattle.buck_engine.specs.run.Reading.{Says};
 ghost use Rattle.buck_engine.specs.fleet.Lent.{of_made, of_writer};
 ghost use Rattle.buck_cutter.specs.Cut.{opening};
 ghost use Rattle.buck_live.specs.Serving.{AnswersLive, KeepsJournal, RunsLive};
@@ -9,9 +11,10 @@ use crate::live::Live;
 use crate::replies::Replies;
 use buck_apt::{Instruction, Settings};
 use buck_engine::{
-    EngineFault, Make, Open, make_journal, open_inputs, read_instruction, write_text,
+    EngineFault, Make, Onlooker, Open, make_journal, open_inputs, read_instruction, write_text,
 };
 use buck_rule::{NamedRule, Rule, Standing};
+use buck_stem::Stem;
 use std::alloc::Global;
 use std::io;
 use std::sync::Arc;
@@ -29,7 +32,6 @@ pub struct LiveTask<'a> {
     pub apt: &'a str,
 }
 
-/// Writes the journal of a book.
 fn write_journal<F: Drop, J: io::Write>(
     alloc: Global,
     live: &Live<F>,
@@ -71,18 +73,19 @@ fn opened<F: Fn(&Standing) -> u64 + Drop>(
 
 /// Answers requests by a book of the instruction that a file has and by the task's rule, and then writes its journal,
 /// if one is wanted, however that ended.
-fn live_made<A: io::Read, R: io::Read, J: io::Write + Drop, W: Replies>(
+fn live_made<R: io::Read, J: io::Write + Drop, W: Replies>(
     alloc: Global,
     task: &LiveTask<'_>,
-    apt: &mut A,
+    own: Instruction,
     input: &mut R,
     journal: Option<J>,
     out: &mut W,
 ) -> Result<(), EngineFault>
-    ensures { of_made J.contents journal (λ kept. AnswersLive task.now (A.remaining apt.old) (R.remaining input.old)
-        (input.new ≡ input.old) kept (W.contents out.old) (W.contents out.new) result) }
+    ensures { (apt : Option (List ℕ)) → Says apt_of apt (Ok own) → of_made J.contents journal (λ kept.
+        AnswersLive task.now apt (R.remaining input.old) (input.new ≡ input.old) kept
+        (W.contents out.old) (W.contents out.new) result) }
 {
-    let instruction = read_instruction(alloc, apt)?.with(&task.settings);
+    let instruction = own.with(&task.settings);
     let named = task.rule;
     let rule = Rule::new(move |s: &Standing| named.price(s));
     let mut live = opened(alloc, instruction, rule)?;
@@ -95,12 +98,13 @@ fn live_made<A: io::Read, R: io::Read, J: io::Write + Drop, W: Replies>(
 ///
 /// The instruction file is opened, then the file of the journal is made, if one is wanted, and then the instruction
 /// is read, with the numbers of the task in the place of its own. Faults until then are those of
-/// [`read_instruction`]; nothing is read of the input then. After the last request, or if the input can't be read or
-/// an answer can't be written, the journal of all that was cut is written. The output hears of each line and its answer
-/// before that is written.
-pub fn serve_live<R: io::Read, O: Open + Make, W: Replies>(
+/// [`read_instruction`]; nothing is read of the input then. The onlooker is shown the instruction. After the last
+/// request, or if the input can't be read or an answer can't be written, the journal of all that was cut is written.
+/// The output hears of each line and its answer before that is written.
+pub fn serve_live<L: Onlooker, R: io::Read, O: Open + Make, W: Replies>(
     alloc: Global,
     task: &LiveTask<'_>,
+    onlooker: &L,
     input: &mut R,
     opener: &mut O,
     out: &mut W,
@@ -110,5 +114,7 @@ pub fn serve_live<R: io::Read, O: Open + Make, W: Replies>(
 {
     let (mut apt, _) = open_inputs(alloc, opener, task.apt, &[])?;
     let journal = make_journal(opener, task.journal)?;
-    live_made(alloc, task, &mut apt, input, journal, out)
+    let own = read_instruction(alloc, &mut apt)?;
+    onlooker.read::<Stem>(&own, &[]);
+    live_made(alloc, task, own, input, journal, out)
 }

@@ -1,7 +1,6 @@
 //! The items of a line of the input; those of a stem are as in a stem file.
-use buck_apt::slots::LENGTHS;
 use buck_record::{Slot, slot};
-use buck_stem::slots::{SAMPLES, SPECIES, STARTS, STEM, ZONES};
+use buck_stem::slots::{SAMPLES, SPECIES, STEM, ZONES};
 
 /// Who asks; if it is absent, the first.
 pub(crate) const HARVESTER: Slot = slot!(950, 1);
@@ -12,19 +11,12 @@ pub(crate) const PREVIEW: Slot = slot!(955, 1, 1..=1);
 /// An operator's own logs of a stem: for each its start and its length in mm, and its assortment, from 0.
 pub(crate) const OWN: Slot = slot!(956, 1);
 
-/// Greatest start of an operator's own log, in mm from the butt.
-pub(crate) const HIGHEST_START: u32 = STARTS.high;
-
-/// Greatest length of an operator's own log, in mm.
-pub(crate) const HIGHEST_LENGTH: u32 = LENGTHS.high;
-
 /// Greatest index of the assortment of an operator's own log, from 0.
 pub(crate) const HIGHEST_ASSORTMENT: u32 = 15;
 
 /// The most logs of an operator's own.
 pub(crate) const MOST_OWN: usize = 80;
 
-/// New targets.
 pub(crate) const TARGETS: Slot = slot!(982, 2);
 
 /// The items of a stem that a stem file has too.
@@ -32,9 +24,6 @@ pub(crate) const STEM_ITEMS: [Slot; 4] = [STEM, SPECIES, SAMPLES, ZONES];
 
 /// What may stand once in a stem, after its number.
 pub(crate) const AFTER_STEM: [Slot; 5] = [SPECIES, SAMPLES, ZONES, PREVIEW, OWN];
-
-/// What the harvester stands before.
-pub(crate) const ASKED: [Slot; 7] = [STEM, SPECIES, SAMPLES, ZONES, PREVIEW, OWN, TARGETS];
 
 /// All items of the table, in its order.
 pub(crate) const TABLE: [Slot; 8] = [

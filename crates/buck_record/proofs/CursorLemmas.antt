@@ -1,5 +1,5 @@
 -- The first piece of a text.
-use Rattle.std.proofs.Common.{◌≡◌, ℕ, ◌+◌, ◌<◌, ◌≤◌, not, List, [], ◌∷◌, Option, None, Some, Ok, length, take, get_or, refl, sym, ap, ◌∙◌, arith, inl, inr, length-drop, take_all}
+use Rattle.std.proofs.Common.{◌≡◌, ℕ, ◌+◌, ◌<◌, ◌≤◌, true, false, not, List, [], ◌∷◌, Option, None, Some, Ok, length, take, get_or, refl, sym, ap, ◌∙◌, arith, inl, inr, length-drop, take_all}
 use Rattle.std.specs.Prelude.{position}
 use Rattle.std.specs.List.{slice_split, before_first, after_first, position_or_len}
 use Rattle.std.proofs.lemmas.List.{drop_all}
@@ -11,7 +11,9 @@ use Rattle.buck_record.specs.Item.{ItemParts}
 use Rattle.buck_record.specs.bytes.White.{trim, trim_start, trim_end}
 use Rattle.buck_record.specs.Reading.{each_from, put_front}
 use Rattle.buck_record.specs.bytes.Record.{item_of, is_tilde, filled_parts, pieces}
-use Rattle.buck_record.specs.pass.Cursor.{HasItems, Leads}
+use Rattle.buck_record.specs.pass.Cursor.{HasItems, HasItemsIn, Leads}
+use Rattle.buck_record.specs.declared.slot.Slot.{Slot}
+use Rattle.buck_record.specs.checking.Table.{is_in}
 use Rattle.buck_record.proofs.WhiteLemmas.{no_true}
 
 filled_parts-cons : (part : List ℕ) (parts : List (List ℕ)) → 0 < length (trim part)
@@ -59,11 +61,6 @@ first-part text =
           ∙ rw (front, after) (one text)
     ]
 
-not-nil : (text : List ℕ) → 0 < length (trim (before_first is_tilde text)) → 0 < length text
-unfolding trim_start trim_end
-not-nil [] h = absurd (omega (arith, h))
-not-nil (x ∷ xs) h = omega arith
-
 put-some : (item : ItemParts) (k : ℕ) (items : List ItemParts)
     → put_front (Some item) k (Ok items) ≡ Ok (item ∷ items)
 put-some item k items = refl
@@ -72,10 +69,6 @@ each-cons : (k : ℕ) (piece : List ℕ) (rest : List (List ℕ))
     → each_from item_of k (piece ∷ rest) ≡ put_front (item_of piece) k (each_from item_of (k + 1) rest)
 unfolding each_from
 each-cons k piece rest = refl
-
-each-nil : (k : ℕ) → each_from item_of k [] ≡ Ok []
-unfolding each_from
-each-nil k = refl
 
 -- a text that is cut at its first tilde, and the first part trimmed
 pub record IsCut (text piece left : List ℕ) : Type 0 where
@@ -107,18 +100,6 @@ cut-none text piece left c none =
     ∙ filled-skip (before_first is_tilde text) (slice_split is_tilde (after_first is_tilde text)) empty
     ∙ ap pieces (sym c.after)
 
--- the first item, and what is left after the tilde
-pub leads : (text piece left : List ℕ) (item : ItemParts) → IsCut text piece left → 0 < length piece
-    → item_of piece ≡ Some item → Leads text item left
-leads text piece left item c some head =
-    let full : 0 < length (trim (before_first is_tilde text)) = rw (← c.trimmed) some in
-    record {
-      piece = piece;
-      first = cut-piece text piece left c some;
-      head = head;
-      shorter = cut-shorter text piece left c (not-nil text full);
-    }
-
 -- the items of a text that begins with one
 pub leads_on : {text left : List ℕ} {item : ItemParts} → Leads text item left → (items : List ItemParts)
     → HasItems left items → HasItems text (item ∷ items)
@@ -127,18 +108,23 @@ leads_on {left} {item} l items h = λ k.
     ∙ each-cons k l.piece (pieces left)
     ∙ rw (l.head, h (k + 1)) (put-some item k items)
 
+-- the same of the items in some slots, where the first item stands in one
+pub kept_on : {text left : List ℕ} {item : ItemParts} (slots : List Slot) → Leads text item left
+    → is_in slots item ≡ true → (items : List ItemParts) → HasItemsIn slots left items → HasItemsIn slots text (item ∷ items)
+kept_on {item} slots l inside items h =
+    (item ∷ h.0, leads_on l h.0 h.1, cond-true _ _ _ inside ∙ ap (λ xs. item ∷ xs) h.2)
+
+-- and where it stands in none
+pub passed_on : {text left : List ℕ} {item : ItemParts} (slots : List Slot) → Leads text item left
+    → is_in slots item ≡ false → (items : List ItemParts) → HasItemsIn slots left items → HasItemsIn slots text items
+passed_on {item} slots l other items h = (item ∷ h.0, leads_on l h.0 h.1, cond-false _ _ _ other ∙ h.2)
+
 nil : (xs : List ℕ) → length xs ≡ 0 → xs ≡ []
 nil [] h = refl
 nil (x ∷ xs) h = absurd (omega (arith, h))
 
 pub none-left : (text : List ℕ) → length text ≡ 0 → pieces text ≡ []
 none-left text h = ap pieces (nil text h) ∙ pieces-nil
-
--- an empty piece, and nothing left
-pub done : (text piece left : List ℕ) → IsCut text piece left → length piece ≡ 0 → length left ≡ 0 → HasItems text []
-done text piece left c none end =
-    let here : pieces text ≡ [] = cut-none text piece left c none ∙ none-left left end in
-    λ k. ap (each_from item_of k) here ∙ each-nil k
 
 -- the first tilde that a search finds
 pub first-found : (text : List ℕ) (r : Option ℕ) → IsFirstByte (is_byte 126) text r → r ≡ position is_tilde text

@@ -1,28 +1,25 @@
 -- A text that is gone through stem by stem.
-use Rattle.std.proofs.Common.{◌≡◌, Bool, true, false, not, List, [], ◌∷◌, ◌++◌, None, Ok, codes, refl, sym, ap, ◌∙◌, subst, append_assoc, ℕ}
+use Rattle.std.proofs.Common.{◌≡◌, Bool, true, false, not, List, [], ◌∷◌, ◌++◌, None, Ok, codes, refl, sym, ap, ap₂, ◌∙◌, subst, append_assoc, ℕ}
 use Rattle.std.specs.Str.{bytes_eq}
 use Rattle.std.proofs.lemmas.List.{append-nil}
+use Rattle.std.proofs.lemmas.List.Elements.{filter-append}
 use Rattle.buck_record.specs.Item.{ItemParts}
 use Rattle.buck_record.specs.Reading.{each_from}
 use Rattle.buck_record.specs.bytes.White.{words}
 use Rattle.buck_record.specs.bytes.Record.{items_of, numbers_of}
-use Rattle.buck_record.specs.pass.Cursor.{HasItems, Joins, Leads, item_in}
+use Rattle.buck_record.specs.pass.Cursor.{Joins, item_in}
+use Rattle.buck_record.specs.checking.Table.{is_in}
 use Rattle.buck_record.specs.checking.Rules.{file_slot}
-use Rattle.buck_record.proofs.CursorLemmas.{leads_on}
 use Rattle.buck_record.proofs.PartLemmas.{joined}
 use Rattle.buck_stem.specs.declared.file.draft.Draft.{Draft}
 use Rattle.buck_stem.specs.declared.file.slots.TheConstants.{STEM, SPECIES, SAMPLES}
 use Rattle.buck_stem.specs.Stem.{StemParts}
-use Rattle.buck_stem.specs.file.Stm.{parts_of, stm_of}
+use Rattle.buck_stem.specs.file.Stm.{parts_of, table, stm_of}
 use Rattle.buck_stem.specs.inner.Ready.{IsReadyDraft}
-use Rattle.buck_stem.specs.inner.Plain.{items_in, zones_item, ArePlain, LeadsNumbers, LeadsZones, LeadsDraft, LeadsStem, LeadsStems, HasStems}
+use Rattle.buck_stem.specs.inner.Plain.{items_in, zones_item, ArePlain, HasKept, LeadsItem, LeadsNumbers, LeadsZones, LeadsDraft, LeadsStem, LeadsStems, HasStems}
 use Rattle.buck_stem.proofs.PlainLemmas.{plain_files}
 
 -- ---- one stem after the other
-items-are : (bytes : List ℕ) (items : List ItemParts) → HasItems bytes items → items_of bytes ≡ Ok items
-unfolding items_of
-items-are bytes items h = h 1
-
 pub stems_start : (text : List ℕ) → LeadsStems text [] text
 stems_start text = λ items others h p. (items, h, p)
 
@@ -34,19 +31,20 @@ stems_go_on text rest left stems stem through one = λ items others h p.
     (all.0, all.1, subst (ArePlain all.0) (sym (append_assoc stems (stem ∷ []) others)) all.2)
 
 pub stems_end : (text rest : List ℕ) (stems : List StemParts)
-    → LeadsStems text stems rest → HasItems rest [] → HasStems text stems
+    → LeadsStems text stems rest → HasKept rest [] → HasStems text stems
 stems_end text rest stems through end =
     let all = through [] [] end refl in
     (all.0, all.1, subst (ArePlain all.0) (append-nil stems) all.2)
 
 pub read_stems : (bytes text body : List ℕ) (stems : List StemParts)
-    → Leads bytes (item_in file_slot text) body
+    → LeadsItem bytes (item_in file_slot text) body
     → bytes_eq text (codes "STM") ≡ true
     → HasStems body stems
     → stm_of bytes ≡ Ok stems
+unfolding items_of
 read_stems bytes text body stems first says h =
-    plain_files text h.0 stems h.2 bytes
-    (items-are bytes (item_in file_slot text ∷ h.0) (leads_on first h.0 h.1)) says
+    let kept = first h.0 h.1 in
+    plain_files text h.0 stems h.2 bytes (rw (kept.1 1) (ap (λ items. Ok items) kept.2)) says
 
 -- ---- two parts of a text
 both : (xs ys : List ItemParts) (stems more : List StemParts)
@@ -68,7 +66,11 @@ both xs ys (stem ∷ stems) more p q =
 pub stems_join : (text front back : List ℕ) (stems more : List StemParts)
     → Joins text front back → HasStems front stems → HasStems back more → HasStems text (stems ++ more)
 stems_join text front back stems more joins h g =
-    (h.0 ++ g.0, joined text front back h.0 g.0 joins h.1 g.1, both h.0 g.0 stems more h.2 g.2)
+    let xs = h.1.0 in
+    let ys = g.1.0 in
+    let kept = filter-append (is_in table) xs ys ∙ ap₂ (λ vs ws. vs ++ ws) h.1.2 g.1.2 in
+    let all = joined text front back xs ys joins h.1.1 g.1.1 in
+    (h.0 ++ g.0, (xs ++ ys, all, kept), both h.0 g.0 stems more h.2 g.2)
 
 -- ---- one stem
 pub draft_leads : (text one two three left : List ℕ) (d : Draft)
@@ -91,7 +93,7 @@ draft_leads text one two three left d a b c z = (
   λ items h.
       let after = zones_item z.item ++ items in
       let sampled = item_in SAMPLES c.0 ∷ after in
-      leads_on a.2 (item_in SPECIES b.0 ∷ sampled) (leads_on b.2 sampled (leads_on c.2 after (z.next items h))),
+      a.2 (item_in SPECIES b.0 ∷ sampled) (b.2 sampled (c.2 after (z.next items h))),
 )
 
 pub stem_leads : (text left : List ℕ) (d : Draft) (stem : StemParts)

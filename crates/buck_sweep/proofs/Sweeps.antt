@@ -1,6 +1,6 @@
 -- Tables over files.
-use Rattle.buck_sweep.proofs.Words.{◌≡◌, ◌≢◌, ℕ, inr, List, length, Option, Result, Ok, Err, refl, ap, subst, ◌∙◌, arith, InstructionParts, Combination, AnswersSweep, IsLineOver, IsSweepRun, IsTable}
-use Rattle.buck_sweep.proofs.Words.{IsRunLine, AnswersTable, IsTableOf}
+use Rattle.buck_sweep.proofs.Words.{◌≡◌, ◌≢◌, ℕ, inr, List, length, map, length-map, sym, of_files, Option, Result, Ok, Err, refl, ap, subst, ◌∙◌, arith, InstructionParts, Combination, AnswersSweep, IsLineOver, IsSweepRun, IsTable}
+use Rattle.buck_sweep.proofs.Words.{IsRunLine, AnswersTable}
 use Rattle.std.specs.Result.{IsErrAnd}
 use Rattle.std.specs.Io.KnownBytes.{Appends, Keeps}
 use Rattle.std.proofs.KnownBytes.{Keeps-refl}
@@ -44,38 +44,44 @@ over apt stms i lists c line says long made run =
     }
 
 -- nothing is written if there is no table
-pub not_swept : (cs : List Combination) (apt : Option (List ℕ)) (stms : List (Option (List ℕ))) (old : Option (List ℕ))
-    (fault : EngineFault) (r : Result (Unit {0}) EngineFault)
-    → (AreNoSeats (length stms) → fault ≡ Seats) → IsErrAnd r (λ x. x ≡ fault) → IsFleetFault apt stms fault
-    → (fault ≢ Full) → IsSweepRun cs apt stms old old r
-not_swept cs apt stms old fault (Ok u) seats h a full = absurd h
-not_swept cs apt stms old fault (Err x) seats h a full =
+pub not_swept : {F : Type 0} (held : F → Option (List ℕ)) (files : List F) (cs : List Combination)
+    (apt old : Option (List ℕ)) (fault : EngineFault) (r : Result (Unit {0}) EngineFault)
+    → (AreNoSeats (length files) → fault ≡ Seats) → IsErrAnd r (λ x. x ≡ fault)
+    → IsFleetFault apt (map held files) fault → (fault ≢ Full) → IsSweepRun cs apt (map held files) old old r
+not_swept held files cs apt old fault (Ok u) seats h a full = absurd h
+not_swept held files cs apt old fault (Err x) seats h a full =
+    let stms = map held files in
     rw h (record {
-      seats = λ none. ap (λ (f : EngineFault). Err f) (seats none);
+      seats = λ none. ap (λ (f : EngineFault). Err f) (seats (of_files held files none));
       run = no_answer (AnswersSweep cs apt stms) (Appends old old) (AppendsSome old old) (Keeps old old) fault
           (fleet_fault apt stms fault a) (a, λ is. absurd (full is)) (Keeps-refl old);
     })
 
 -- the table over lists that files have is a table over the files
-pub swept : (cs : List Combination) (apt : Option (List ℕ)) (stms : List (Option (List ℕ))) (n : ℕ)
-    (i : InstructionParts) (lists : List StemList) (old new : Option (List ℕ))
-    (r : Result (Unit {0}) EngineFault)
-    → (AreNoSeats (length stms) → ⊥) → n ≡ length stms → Says apt_of apt (Ok i) → length lists ≡ n
-    → AreListsOf n stms lists → WritesText (AnswersTable i lists cs) old new r → IsSweepRun cs apt stms old new r
-swept cs apt stms n i lists old new r seats same says long made run =
-    record { seats = λ none. absurd (seats none); run = of r run } where
-      all : AreListsOf (length stms) stms lists
-      all = subst (λ (m : ℕ). AreListsOf m stms lists) same made
+pub swept : {F : Type 0} (held : F → Option (List ℕ)) (files : List F) (cs : List Combination) (apt : Option (List ℕ))
+    (i : InstructionParts) (lists : List StemList) (old new : Option (List ℕ)) (r : Result (Unit {0}) EngineFault)
+    → (AreNoSeats (length files) → ⊥) → Says apt_of apt (Ok i) → length lists ≡ length files
+    → AreListsOf (length files) (map held files) lists → WritesText (AnswersTable i lists cs) old new r
+    → IsSweepRun cs apt (map held files) old new r
+swept held files cs apt i lists old new r seats says number made run =
+    record { seats = λ none. absurd (seats (of_files held files none)); run = of r run } where
+      stms : List (Option (List ℕ))
+      stms = map held files
 
-      table : (text : List ℕ) → IsTableOf i lists cs text → IsTable cs apt stms text
-      table text of = record {
+      long : length lists ≡ length stms
+      long = number ∙ sym (length-map files held)
+
+      all : AreListsOf (length stms) stms lists
+      all = subst (λ (n : ℕ). AreListsOf n stms lists) (sym (length-map files held)) made
+
+      table : (text : List ℕ) → AnswersTable i lists cs (Ok text) → IsTable cs apt stms text
+      table text (lines, are_lines, is) = record {
         instruction = i;
-        lines = of.lines;
+        lines = lines;
         apt_says = says;
-        are_lines =
-            lines_mapped (IsRunLine i lists) (IsLineOver apt stms)
-            (λ c line. over apt stms i lists c line says (long ∙ same) all) cs of.lines of.are_lines;
-        text_is = of.text_is;
+        are_lines = lines_mapped (IsRunLine i lists) (IsLineOver apt stms)
+            (λ c line. over apt stms i lists c line says long all) cs lines are_lines;
+        text_is = is;
       }
 
       of : (r : Result (Unit {0}) EngineFault) → WritesText (AnswersTable i lists cs) old new r
@@ -85,7 +91,7 @@ swept cs apt stms n i lists old new r seats same says long made run =
       of (Err fault) x = (
         (
           inr (inr ((i, says), inr (accepted (length stms) stms lists all, x.0.0))),
-          too_many {X = Unit {0}} stms lists (length stms) (Err fault) (long ∙ same) refl all x.0.1,
+          too_many {X = Unit {0}} stms lists (length stms) (Err fault) long refl all x.0.1,
         ),
         x.1,
       )

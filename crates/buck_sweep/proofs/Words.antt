@@ -7,7 +7,7 @@ pub use Rattle.buck_book.specs.Posting.{targets_of}
 pub use Rattle.buck_journal.specs.judging.Replay.{history_of}
 pub use Rattle.buck_figures.specs.declared.degrees.Degrees.{Degrees}
 pub use Rattle.buck_sweep.specs.Table.{Assorted, IsLeast, IsLine, wholes_of, apart_of, cells, volumes_of, degree_heads, pair_heads}
-pub use Rattle.buck_sweep.specs.inner.Lines.{AreAllDegrees, line_by, versions_of, lesser, AnswersTable, IsTableOf, IsPart}
+pub use Rattle.buck_sweep.specs.inner.Lines.{AreAllDegrees, line_by, versions_of, lesser, AnswersTable, IsPart}
 pub use Rattle.std.proofs.lemmas.List.{map-append, take_more, take_all, length-map}
 pub use Rattle.buck_sweep.specs.declared.combination.Combination.{Combination}
 pub use Rattle.buck_sweep.specs.Sweep.{AnswersSweep, IsLineOver, IsSweepRun, IsTable, AreLines}

@@ -10,6 +10,7 @@ use Rattle.buck_figures.specs.Points.{AreDegrees}
 use Rattle.buck_figures.specs.Assorted.{AreParts}
 use Rattle.buck_figures.specs.declared.degrees.Degrees.{Degrees}
 use Rattle.buck_figures.specs.declared.figures.Part.{Part}
+use Rattle.buck_cells.specs.Cells.{number_cell}
 use Rattle.buck_words.specs.Names.{quoted}
 use Rattle.buck_words.specs.Words.{half_up}
 use Rattle.buck_rule.specs.declared.named.NamedRule.{NamedRule}
@@ -17,8 +18,7 @@ use Rattle.buck_rule.specs.Named.{rule_name}
 
 -- a comma, and then a number, if there is one
 abbrev pub cell : Option ℕ → List ℕ
-cell None = codes ","
-cell (Some n) = codes "," ++ decimal n
+cell = number_cell
 
 abbrev pub cells : List (Option ℕ) → List ℕ
 cells numbers = flat_map cell numbers

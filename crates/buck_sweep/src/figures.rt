@@ -7,8 +7,9 @@ ghost use Rattle.buck_sweep.specs.Table.{IsLeast, IsLine, apart_of, cells, rate_
 ghost use Rattle.buck_sweep.specs.inner.Lines.{AreAllDegrees, lesser, line_by, versions_of};
 ghost use Rattle.buck_book.specs.declared.posting.TheConstants.{MOST_POSTINGS};
 
-use crate::table::{put_cell, put_cells};
+use crate::table::put_cells;
 use buck_apt::Instruction;
+use buck_cells::put_number;
 use buck_dp::Planner;
 use buck_figures::{Degrees, Figures, Part, Sums, degrees_at, figures_of};
 use buck_journal::Journal;
@@ -24,10 +25,7 @@ use std::sync::Arc;
 fn widened(number: Option<u32>) -> Option<u128>
     ensures { result ≡ number }
 {
-    match number {
-        Some(number) => Some(u128::from(number)),
-        None => None,
-    }
+    number.map(u128::from)
 }
 
 /// The degrees of each assortment, given what is wanted and what was cut of each class.
@@ -86,7 +84,7 @@ fn put_wholes(out: &mut Vec<u8>, degrees: &[Degrees]) -> Result<(), Memory>
     ensures { OnOk result (out.new.items ≡ out.old.items ++ cells (wholes_of degrees.now)) }
 {
     for degree in degrees {
-        put_cell(out, widened(degree.whole))?;
+        put_number(out, widened(degree.whole))?;
     }
     Ok(())
 }
@@ -96,8 +94,8 @@ fn put_apart(out: &mut Vec<u8>, degrees: &[Degrees]) -> Result<(), Memory>
     ensures { OnOk result (out.new.items ≡ out.old.items ++ cells (apart_of degrees.now)) }
 {
     for degree in degrees {
-        put_cell(out, widened(degree.diameter))?;
-        put_cell(out, widened(degree.length))?;
+        put_number(out, widened(degree.diameter))?;
+        put_number(out, widened(degree.length))?;
     }
     Ok(())
 }
@@ -108,8 +106,8 @@ fn put_volumes(out: &mut Vec<u8>, cut: &[Part], unsteered: &[Part]) -> Result<()
     ensures { OnOk result (out.new.items ≡ out.old.items ++ cells (volumes_of cut.now unsteered.now)) }
 {
     for at in 0..cut.len() {
-        put_cell(out, Some(cut[at].volume))?;
-        put_cell(out, Some(unsteered[at].volume))?;
+        put_number(out, Some(cut[at].volume))?;
+        put_number(out, Some(unsteered[at].volume))?;
     }
     Ok(())
 }
@@ -140,17 +138,9 @@ fn put_line(
     let versions = versions_of(figures);
     put_cells(out, &[Some(period), Some(limit), Some(versions)])?;
     put_wholes(out, degrees)?;
-    let rate = rate_of(total);
-    put_cells(
-        out,
-        &[
-            least,
-            Some(total.at_base),
-            Some(total.best),
-            Some(rate),
-            Some(total.volume),
-        ],
-    )?;
+    let (at_base, best) = (Some(total.at_base), Some(total.best));
+    let rate = Some(rate_of(total));
+    put_cells(out, &[least, at_base, best, rate, Some(total.volume)])?;
     let cut = figures.assortments.as_slice();
     put_volumes(out, cut, figures.unsteered_assortments.as_slice())?;
     put_apart(out, degrees)?;
@@ -174,12 +164,8 @@ pub(crate) fn line_of(
     // The figures that a page shows, from the journal: sums made during the run would be a second definition.
     let figures = figures_of(alloc, &mut planner, instruction, from_ref(journal))?;
     let targets = figures.targets.as_slice();
-    let degrees = degrees_of(
-        alloc,
-        figures.instruction,
-        targets,
-        figures.counts.as_slice(),
-    )?;
+    let counts = figures.counts.as_slice();
+    let degrees = degrees_of(alloc, figures.instruction, targets, counts)?;
     let degrees = degrees.as_slice();
     let mut line = Vec::new(alloc);
     put_line(&mut line, rule, &figures, degrees, least_of(degrees))?;

@@ -1,6 +1,5 @@
 //! `run_sweep`: from the bytes of an instruction file and stem files to a table.
 ghost use Rattle.std.specs.Prelude.{◌≡◌, ◌≢◌, map, drop, IfErr};
-ghost use Rattle.buck_record.specs.Reading.{listed};
 ghost use Rattle.buck_engine.specs.declared.fault.EngineFault.TheVariants.{Seats, Write};
 ghost use Rattle.buck_engine.specs.run.Reading.{IfStopped};
 ghost use Rattle.buck_engine.specs.text.Written.{WritesText};
@@ -10,28 +9,15 @@ ghost use Rattle.buck_sweep.specs.inner.Lines.{AnswersTable, IsPart};
 
 use crate::combination::Combination;
 use crate::cutting::{lines_in_parts, lines_of};
+use crate::serving::SweepTask;
 use crate::table::put_head;
-use buck_engine::{EngineFault, Input, number_of_threads, read_input, write_text};
+use buck_engine::{
+    EngineFault, Input, OneThread, Onlooker, SeveralThreads, number_of_threads, read_input,
+    write_text,
+};
 use std::alloc::Global;
 use std::io;
 use std::thread::Threads;
-
-/// The table of some combinations, given what came of their lines.
-fn table_of(
-    alloc: Global,
-    input: &Input,
-    combinations: &[Combination],
-    lines: Result<Vec<u8>, EngineFault>,
-) -> Result<Vec<u8>, EngineFault>
-    requires lines { IsPart input.now.instruction input.now.lists.items combinations.now lines }
-    ensures { AnswersTable input.now.instruction input.now.lists.items combinations.now (listed result) }
-{
-    let lines = lines?;
-    let mut text = Vec::new(alloc);
-    put_head(alloc, &mut text, &input.instruction)?;
-    text.extend_from_slice(lines.as_slice())?;
-    Ok(text)
-}
 
 /// Writes the table of some combinations, given what came of their lines.
 fn write_table<W: io::Write>(
@@ -47,7 +33,10 @@ fn write_table<W: io::Write>(
     ensures fault { IfErr result (λ fault. fault ≢ Write → IsCuttingFault fault) }
     ensures untouched { IfErr result (λ fault. fault ≢ Write → out.new ≡ out.old) }
 {
-    let text = table_of(alloc, input, combinations, lines)?;
+    let lines = lines?;
+    let mut text = Vec::new(alloc);
+    put_head(alloc, &mut text, &input.instruction)?;
+    text.extend_from_slice(lines.as_slice())?;
     write_text(out, text.as_slice())
 }
 
@@ -78,35 +67,36 @@ pub fn run_sweep<R: io::Read, W: io::Write>(
     // Only a failed write touches the output.
     ensures untouched { IfErr result (λ fault. fault ≢ Write → out.new ≡ out.old) }
 {
-    let input = read_input(alloc, apt, stms)?;
+    let input = read_input(&OneThread, alloc, apt, stms)?;
     let lines = lines_of(alloc, &input, combinations);
     write_table(alloc, &input, combinations, lines, out)
 }
 
-/// [`run_sweep`] with the runs done in several threads at once: in the given number, from 1 to 64, or, if none is
-/// given, in as many as the machine has. What is written, and each fault, are those of [`run_sweep`], whatever the
-/// number; if memory runs out in one of the runs, it is `Memory`, and nothing is written.
-pub fn run_sweep_in_parts<T: Threads + Sync, R: io::Read, W: io::Write>(
+/// [`run_sweep`] of a task's combinations with the runs done in several threads at once: in the given number, from 1 to
+/// 64, or, if none is given, in as many as the machine has. What is written, and each fault, are those of
+/// [`run_sweep`], whatever the number; if memory runs out in one of the runs, it is `Memory`, and nothing is written.
+/// The onlooker is shown the instruction.
+pub fn run_sweep_in_parts<T: Threads + Sync, L: Onlooker, R: io::Read, W: io::Write>(
     rt: &T,
     alloc: Global,
-    threads: Option<u8>,
-    combinations: &[Combination],
+    task: &SweepTask<'_>,
+    onlooker: &L,
     apt: &mut R,
     stms: &mut [R],
     out: &mut W,
 ) -> Result<(), EngineFault>
     // As [`run_sweep`] says.
-    ensures run { IsSweepRun combinations.now (R.remaining apt.old) (map R.remaining stms.old)
+    ensures run { IsSweepRun task.now.combinations.items (R.remaining apt.old) (map R.remaining stms.old)
         (W.contents out.old) (W.contents out.new) result }
     ensures order { IfErr result (IfStopped (λ last. drop last stms.new ≡ drop last stms.old)) }
     ensures unread { IfErr result (λ fault. fault ≡ Seats → apt.new ≡ apt.old) }
     ensures untouched { IfErr result (λ fault. fault ≢ Write → out.new ≡ out.old) }
 {
-    let input = read_input(alloc, apt, stms)?;
-    let size = combinations
-        .len()
-        .div_ceil(number_of_threads(rt, threads))
-        .max(1);
+    let workers = SeveralThreads::of(rt, task.threads, onlooker);
+    let input = read_input(&workers, alloc, apt, stms)?;
+    let combinations = task.combinations.as_slice();
+    let number = number_of_threads(rt, task.threads);
+    let size = combinations.len().div_ceil(number).max(1);
     let lines = lines_in_parts(rt, alloc, &input, combinations, size);
     write_table(alloc, &input, combinations, lines, out)
 }

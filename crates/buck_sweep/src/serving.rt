@@ -4,7 +4,7 @@ ghost use Rattle.buck_sweep.specs.Serving.{RunsSweep};
 
 use crate::combination::Combination;
 use crate::running::run_sweep_in_parts;
-use buck_engine::{EngineFault, Open, open_inputs};
+use buck_engine::{EngineFault, Onlooker, Open, open_inputs};
 use std::alloc::Global;
 use std::io;
 use std::thread::Threads;
@@ -26,11 +26,12 @@ pub struct SweepTask<'a> {
 ///
 /// The files are opened in the order of the words before one of them is read; one that can't be opened is `Read` with
 /// its number. Each fault and what is written before it are those of [`run_sweep`](crate::run_sweep), whatever the
-/// number of threads.
-pub fn serve_sweep<T: Threads + Sync, O: Open, W: io::Write>(
+/// number of threads. The onlooker is shown the instruction.
+pub fn serve_sweep<T: Threads + Sync, L: Onlooker, O: Open, W: io::Write>(
     rt: &T,
     alloc: Global,
     task: &SweepTask<'_>,
+    onlooker: &L,
     opener: &mut O,
     out: &mut W,
 ) -> Result<(), EngineFault>
@@ -38,14 +39,6 @@ pub fn serve_sweep<T: Threads + Sync, O: Open, W: io::Write>(
         (W.contents out.old) (W.contents out.new) result }
 {
     let (mut apt, mut stms) = open_inputs(alloc, opener, task.apt, task.stms.as_slice())?;
-    let combinations = task.combinations.as_slice();
-    run_sweep_in_parts(
-        rt,
-        alloc,
-        task.threads,
-        combinations,
-        &mut apt,
-        stms.as_mut_slice(),
-        out,
-    )
+    let stms = stms.as_mut_slice();
+    run_sweep_in_parts(rt, alloc, task, onlooker, &mut apt, stms, out)
 }

@@ -1,31 +1,20 @@
 //! The lines of a table: the names of its columns, and then one for each run.
 ghost use Rattle.std.specs.Prelude.{◌≡◌, ◌≤◌, ◌++◌, length, OnOk};
-ghost use Rattle.buck_sweep.specs.Table.{cell, cells, column, degree_heads, head_line, pair_heads};
+ghost use Rattle.buck_sweep.specs.Table.{cells, column, degree_heads, head_line, pair_heads};
 
 use buck_apt::{Assortment, Instruction};
+use buck_cells::put_number;
 use buck_record::Memory;
 use buck_words::put_quoted;
 use itoa::Buffer;
 use std::alloc::Global;
-
-/// Puts a cell: a comma, and then the number, if there is one.
-pub(crate) fn put_cell(out: &mut Vec<u8>, number: Option<u128>) -> Result<(), Memory>
-    ensures { OnOk result (out.new.items ≡ out.old.items ++ cell number) }
-{
-    out.push(b',')?;
-    if let Some(number) = number {
-        let mut buffer = Buffer::new();
-        out.extend_from_slice(buffer.format(number).as_bytes())?;
-    }
-    Ok(())
-}
 
 /// Puts a cell for each number.
 pub(crate) fn put_cells(out: &mut Vec<u8>, numbers: &[Option<u128>]) -> Result<(), Memory>
     ensures { OnOk result (out.new.items ≡ out.old.items ++ cells numbers.now) }
 {
     for number in numbers {
-        put_cell(out, *number)?;
+        put_number(out, *number)?;
     }
     Ok(())
 }

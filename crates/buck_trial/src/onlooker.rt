@@ -1,8 +1,8 @@
 //! Who looks on while runs are made.
-use buck_engine::Nobody;
+use buck_engine::{Nobody, Onlooker};
 
 /// Observes runs while they go on, called by the threads that make them. Nothing that a table has depends on it.
-pub trait RunOnlooker {
+pub trait RunOnlooker: Onlooker {
     /// So many runs are to be made.
     fn making(&self, runs: usize);
 

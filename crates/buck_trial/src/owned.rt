@@ -30,7 +30,7 @@ use buck_apt::Instruction;
 use buck_book::Parts;
 use buck_cells::{Change, put_numbers, put_spread, spread_of};
 use buck_draws::order_from;
-use buck_engine::{EngineFault, Input, Nobody, Open, number_of_threads, write_text};
+use buck_engine::{EngineFault, Input, Nobody, Onlooker, Open, number_of_threads, write_text};
 use buck_journal::Journal;
 use buck_ledger::appraise;
 use buck_record::Memory;
@@ -435,10 +435,11 @@ fn write_owned<T: Threads + Sync, W: io::Write>(
 /// lost of it in ten-thousandths; with draws, the least, the mean and the greatest of what these lose. The owner's
 /// instruction is read after all other files, and refused if it may not stand beside the instruction; see
 /// [`shape_fault`](buck_terms::shape_fault).
-pub fn run_owned<T: Threads + Sync, R: io::Read + Drop, W: io::Write>(
+pub fn run_owned<T: Threads + Sync, L: Onlooker, R: io::Read + Drop, W: io::Write>(
     rt: &T,
     alloc: Global,
     task: &TrialTask<'_>,
+    onlooker: &L,
     files: OwnedFiles<R>,
     out: &mut W,
 ) -> Result<(), TermsFault>
@@ -451,7 +452,7 @@ pub fn run_owned<T: Threads + Sync, R: io::Read + Drop, W: io::Write>(
 {
     let OwnedFiles { files, own } = files;
     let (mut reader, file) = own;
-    let input = read_files(alloc, files)?;
+    let input = read_files(alloc, onlooker, files)?;
     let owner = read_own(alloc, &mut reader, file, &input.instruction)?;
     of_run(write_owned(rt, alloc, task, &input, &owner, out))
 }
@@ -484,10 +485,11 @@ fn open_owned<O: Open>(
 
 /// Makes the table that a task asks for over the files of its names and that of an owner's instruction, which is opened
 /// after the others. Else as [`serve_trial`](crate::serve_trial); the faults are those of [`run_owned`].
-pub fn serve_owned<T: Threads + Sync, O: Open, W: io::Write>(
+pub fn serve_owned<T: Threads + Sync, L: Onlooker, O: Open, W: io::Write>(
     rt: &T,
     alloc: Global,
     task: &OwnedTask<'_>,
+    onlooker: &L,
     opener: &mut O,
     out: &mut W,
 ) -> Result<(), TermsFault>
@@ -495,5 +497,5 @@ pub fn serve_owned<T: Threads + Sync, O: Open, W: io::Write>(
         (W.contents out.old) (W.contents out.new) result }
 {
     let files = open_owned(alloc, opener, &task.trial, task.own)?;
-    run_owned(rt, alloc, &task.trial, files, out)
+    run_owned(rt, alloc, &task.trial, onlooker, files, out)
 }

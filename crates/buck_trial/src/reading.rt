@@ -11,7 +11,7 @@ ghost use Rattle.buck_trial.specs.Inputs.{AnswersFiles, HasWanted, IsInputFault,
 ghost use Rattle.buck_trial.specs.inner.Running.{in_terms};
 
 use buck_book::MOST_POSTINGS;
-use buck_engine::{EngineFault, Input, Open, open_inputs, read_input};
+use buck_engine::{EngineFault, Input, OneThread, Onlooker, Open, open_inputs, read_input};
 use buck_stem::Stem;
 use buck_terms::{TermsFault, open_more, read_wanted};
 use std::alloc::Global;
@@ -77,7 +77,7 @@ fn read_stems<R: io::Read>(alloc: Global, apt: &mut R, stms: &mut [R]) -> Result
     ensures refused { IfErr result (IsFleetFault (R.remaining apt.old) (map R.remaining stms.old)) }
     ensures full { IfErr result (λ fault. fault ≡ Full → HaveTooMany (map R.remaining stms.old)) }
 {
-    let input = read_input(alloc, apt, stms)?;
+    let input = read_input(&OneThread, alloc, apt, stms)?;
     check_room(input.lists.as_slice())?;
     Ok(input)
 }
@@ -109,9 +109,10 @@ fn read_moved<R: io::Read>(
 /// What the files of a trial say: the instruction, with the targets of the file of targets in the place of its own, if
 /// there is one, and the stems. The instruction file is read first, then the stem files, and then the file of targets;
 /// each is refused, if it must be, before the next is read. `Full` if there are more stems than 1,000,000, before the
-/// file of targets is read.
-pub(crate) fn read_files<R: io::Read + Drop>(
+/// file of targets is read. An onlooker is shown the instruction.
+pub(crate) fn read_files<L: Onlooker, R: io::Read + Drop>(
     alloc: Global,
+    onlooker: &L,
     files: Opened<R>,
 ) -> Result<Input, TermsFault>
     ensures few { IfOk result (λ input. length input.lists.items ≤ 64) }
@@ -127,6 +128,7 @@ pub(crate) fn read_files<R: io::Read + Drop>(
         targets,
     } = files;
     let input = of_run(read_stems(alloc, &mut apt, stms.as_mut_slice()))?;
+    onlooker.read::<Stem>(&input.instruction, &[]);
     match targets {
         None => Ok(input),
         Some((mut reader, file)) => read_moved(alloc, &mut reader, file, input),

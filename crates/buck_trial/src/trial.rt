@@ -385,7 +385,7 @@ pub fn run_trial<L: RunOnlooker, R: io::Read + Drop, W: io::Write>(
         (map R.remaining files.stms.items) (held_with R.remaining files.targets)
         (W.contents out.old) (W.contents out.new) result }
 {
-    let input = read_files(alloc, files)?;
+    let input = read_files(alloc, onlooker, files)?;
     of_run(write_one_by_one(alloc, task, onlooker, &input, out))
 }
 
@@ -410,6 +410,6 @@ pub fn run_trial_in_parts<
         (map R.remaining files.stms.items) (held_with R.remaining files.targets)
         (W.contents out.old) (W.contents out.new) result }
 {
-    let input = read_files(alloc, files)?;
+    let input = read_files(alloc, onlooker, files)?;
     of_run(write_trial(rt, alloc, task, onlooker, &input, out))
 }

@@ -161,7 +161,7 @@ pub fn run_tune<L: Onlooker, R: io::Read + Drop, W: io::Write>(
         (map R.remaining files.stms.items) (held_with R.remaining files.targets))
         (W.contents out.old) (W.contents out.new) result }
 {
-    let input = read_files(alloc, files)?;
+    let input = read_files(alloc, onlooker, files)?;
     of_run(write_tuned(alloc, task, onlooker, &input, out))
 }
 

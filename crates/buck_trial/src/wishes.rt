@@ -378,7 +378,7 @@ pub fn run_wishes<L: RunOnlooker, R: io::Read + Drop, W: io::Write>(
         (map R.remaining files.stms.items) (held_with R.remaining files.targets))
         (W.contents out.old) (W.contents out.new) result }
 {
-    let input = read_files(alloc, files)?;
+    let input = read_files(alloc, onlooker, files)?;
     of_run(write_one_by_one(alloc, task, onlooker, input, out))
 }
 
@@ -402,6 +402,6 @@ pub fn run_wishes_in_parts<
         (map R.remaining files.stms.items) (held_with R.remaining files.targets))
         (W.contents out.old) (W.contents out.new) result }
 {
-    let input = read_files(alloc, files)?;
+    let input = read_files(alloc, onlooker, files)?;
     of_run(write_wishes(rt, alloc, task, onlooker, input, out))
 }

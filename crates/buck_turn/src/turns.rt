@@ -4,7 +4,6 @@ ghost use Rattle.buck_rule.specs.Stored.{Answers};
 ghost use Rattle.buck_book.specs.declared.ready.CutFault.TheVariants.{Full};
 ghost use Rattle.buck_book.specs.Pricing.{AreSheetsBy};
 ghost use Rattle.buck_turn.specs.Turn.{HasCutInTurn, stems_in_all};
-ghost use Rattle.buck_turn.specs.inner.Rounds.{IsAt};
 
 use buck_apt::Instruction;
 use buck_book::{Book, CutFault, MOST_POSTINGS};
@@ -13,53 +12,6 @@ use buck_rule::{Rule, Standing};
 use buck_stem::Stem;
 use std::alloc::Global;
 use std::sync::Arc;
-
-/// The turn of the harvester whose list stands at a place: it cuts the stem at the round's place of its list, if
-/// that is so long.
-fn turn<F: Fn(&Standing) -> u64 + Drop>(
-    alloc: Global,
-    cutter: &mut Cutter<F>,
-    lists: &[Vec<Arc<Stem>>],
-    round: usize,
-    place: usize,
-) -> Result<(), CutFault>
-    requires answers { Answers F.Fn cutter.old.rule }
-    requires few { length lists.now ≤ 64 }
-    requires place { place < length lists.now }
-    requires at { IsAt F.Fn lists.now round place cutter.old }
-    ensures rule { cutter.new.rule ≡ cutter.old.rule }
-    ensures instruction { cutter.new.history.instruction ≡ cutter.old.history.instruction }
-    ensures at { OnOk result (IsAt F.Fn lists.now round (place + 1) cutter.new) }
-    ensures full { IfErr result (λ fault. fault ≡ Full → MOST_POSTINGS < stems_in_all lists.now) }
-{
-    let list = &lists[place];
-    if round >= list.len() {
-        return Ok(());
-    }
-    let _ = cutter.cut(alloc, list[round].clone()?, place as u32 + 1)?;
-    Ok(())
-}
-
-/// Cuts one stem of each list that is so long: the one at this place.
-fn cut_round<F: Fn(&Standing) -> u64 + Drop>(
-    alloc: Global,
-    cutter: &mut Cutter<F>,
-    lists: &[Vec<Arc<Stem>>],
-    round: usize,
-) -> Result<(), CutFault>
-    requires answers { Answers F.Fn cutter.old.rule }
-    requires few { length lists.now ≤ 64 }
-    requires at { IsAt F.Fn lists.now round 0 cutter.old }
-    ensures rule { cutter.new.rule ≡ cutter.old.rule }
-    ensures instruction { cutter.new.history.instruction ≡ cutter.old.history.instruction }
-    ensures at { OnOk result (IsAt F.Fn lists.now (round + 1) 0 cutter.new) }
-    ensures full { IfErr result (λ fault. fault ≡ Full → MOST_POSTINGS < stems_in_all lists.now) }
-{
-    for k in 0..lists.len() {
-        turn(alloc, cutter, lists, round, k)?;
-    }
-    Ok(())
-}
 
 /// How long the longest list is.
 fn longest(lists: &[Vec<Arc<Stem>>]) -> usize
@@ -93,7 +45,13 @@ pub fn cut_in_turn<F: Fn(&Standing) -> u64 + Drop>(
 {
     let mut cutter = Cutter::open(alloc, instruction, rule, MOST_POSTINGS)?;
     for round in 0..longest(lists) {
-        cut_round(alloc, &mut cutter, lists, round)?;
+        for place in 0..lists.len() {
+            let list = &lists[place];
+            if round >= list.len() {
+                continue;
+            }
+            let _ = cutter.cut(alloc, list[round].clone()?, place as u32 + 1)?;
+        }
     }
     Ok(cutter.into_book())
 }

@@ -3,7 +3,7 @@
 //! made by another program, in another language, and looked at by a person.
 #![tactic(auto)]
 
-use buck_engine::{Desk, Disk, Settings, Shown, Table, ViewTask, conclude, serve_view};
+use buck_engine::{Desk, Disk, Nobody, Settings, Shown, Table, ViewTask, conclude, serve_view};
 use std::alloc::{AllocError, Global};
 use std::io::Write;
 use std::process::ExitCode;
@@ -132,6 +132,7 @@ fn is_right<T: Threads + Sync>(threads: &T, rt: &HostRuntime, case: &Case) -> io
         threads,
         alloc,
         &task,
+        &Nobody,
         &mut Disk::of(rt, alloc, &Desk::of(0)),
         &mut output,
     );

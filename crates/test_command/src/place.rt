@@ -44,6 +44,9 @@ const JOURNAL: &str = "1 2 JRN~971 1 400 500 600 800~971 1 600 750 900 400~981 1
 250 250 250 250 250 250 250 250 250 250 250 250~981 4~981 5 0 4000 0~981 6 157080000~
 ";
 
+/// A journal without a posting, of the instruction with two of one name.
+const IDLE: &str = "1 2 JRN~971 1 400 400~";
+
 /// A journal of one change of targets, whose second list of prices is missing.
 const UNLAWFUL: &str = "1 2 JRN~971 1 400 500 600 800~982 1 1 1 0~982 2 0 0 0 4~";
 
@@ -68,11 +71,11 @@ impl io::Read for Repeated {
     }
 }
 
-/// The files `apt`, `twins` (an instruction), `stm`, `jrn`, `unlawful` (a journal) and `bad` (none of these); `two`,
-/// which has two stems, `empty`, which has none, `beech`, which has one of another species, and `many`, which has 1,000
-/// of no length and one number; `short` and `long`, of 999,000 and of 1,000,000 blanks; the
-/// files `out` and `full`, which can be made, the second with room for 99 bytes; `heavy`, for which there is no memory;
-/// and the names that were asked for, each with a space after it.
+/// The files `apt`, `twins` (an instruction), `stm`, `jrn`, `idle` and `unlawful` (journals) and `bad` (none of these);
+/// `two`, which has two stems, `empty`, which has none, `beech`, which has one of another species, and `many`, which has
+/// 1,000 of no length and one number; `short` and `long`, of 999,000 and of 1,000,000 blanks; the files `out` and
+/// `full`, which can be made, the second with room for 99 bytes; `heavy`, for which there is no memory; and the names
+/// that were asked for, each with a space after it.
 #[derive(Drop)]
 pub struct Shelf<'a> {
     names: &'a Mutex<Vec<u8>>,
@@ -122,6 +125,7 @@ fn shelved(name: &str) -> Option<Repeated> {
         "two" => file(TWO.as_bytes(), b"", 0),
         "empty" => file(b"1 2 STM~", b"", 0),
         "jrn" => file(JOURNAL.as_bytes(), b"", 0),
+        "idle" => file(IDLE.as_bytes(), b"", 0),
         "bad" => file(b"1 2 BAD~", b"", 0),
         "unlawful" => file(UNLAWFUL.as_bytes(), b"", 0),
         "beech" => file(b"1 2 STM~951 1 9~952 1 2~953 1 250~", b"", 0),

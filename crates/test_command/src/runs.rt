@@ -333,8 +333,20 @@ const BAD: &str = "bad, line 1: kind of file (1 2): \"BAD\", expected STM\n";
 /// What is said of the file of blanks.
 const BLANK: &str = "long: kind of file (1 2): missing, expected 1 2 APT~\n";
 
+/// What is said of `twins` after each command that reads it.
+const TWIN: &str = "note: twins: assortment 1 \"saw\": an earlier one has the same name\n";
+
+/// What is said of requests that are an instruction and a stem, and then of `twins`.
+const LIVE: &str = "standard input, line 1: expected a stem (951 1 and more) or new targets (982 2)
+standard input, line 2: expected a stem (951 1 and more) or new targets (982 2)
+standard input, line 3: expected a stem (951 1 and more) or new targets (982 2)
+standard input, line 4: item 1, \"|1 2 STM\", expected two numbers from 0 to 65535 and whitespace at its beginning
+standard input, line 5: expected a stem (951 1 and more) or new targets (982 2)
+note: twins: assortment 1 \"saw\": an earlier one has the same name
+";
+
 /// Words, and what stands on the screen, by a clock that is read 600 ms after it was read before.
-const SCREENS: [(&str, &str); 20] = [
+const SCREENS: [(&str, &str); 32] = [
     ("buck long stm", BLANK),
     (
         "fleet apt many",
@@ -356,18 +368,36 @@ const SCREENS: [(&str, &str); 20] = [
         "note: beech: stem 9 (place 1): no assortment takes its species, 2\n",
     ),
     ("buck -q apt beech", ""),
-    (
-        "buck twins stm",
-        "note: twins: assortment 1 \"saw\": an earlier one has the same name\n",
-    ),
+    ("buck twins stm", TWIN),
     (
         "fleet twins two stm",
         "note: twins: assortment 1 \"saw\": an earlier one has the same name\nnote: stm: stem 1 (place 1): an earlier stem has the same number\n",
     ),
+    ("sweep --rule steady --threads 1 twins empty", TWIN),
     (
-        "sweep --rule steady --threads 1 twins empty",
-        "note: twins: assortment 1 \"saw\": an earlier one has the same name\n",
+        "sweep --rule steady --threads 1 --own twins twins empty",
+        TWIN,
     ),
+    (
+        "sweep --rule steady --draws 1 --threads 1 twins empty",
+        "\r1 of 2 runs made\x1b[K\r2 of 2 runs made\x1b[K\nnote: twins: assortment 1 \"saw\": an earlier one has the same name\n",
+    ),
+    (
+        "wishes --rule steady twins empty",
+        "\r1 of 1 runs made\x1b[K\nnote: twins: assortment 1 \"saw\": an earlier one has the same name\n",
+    ),
+    ("tune twins empty", TWIN),
+    ("check twins idle", TWIN),
+    ("check --rule steady twins idle", TWIN),
+    ("report twins idle", TWIN),
+    ("view twins idle", TWIN),
+    ("table twins idle logs", TWIN),
+    ("appraise twins idle twins", TWIN),
+    (
+        "compare twins idle idle",
+        "note: idle: named twice, so it counts twice\nnote: twins: assortment 1 \"saw\": an earlier one has the same name\n",
+    ),
+    ("live twins", LIVE),
     (
         "fleet --rule linear apt stm",
         "note: 1 stem, and a period of 1: no price moves before all are cut\n",

@@ -1,9 +1,11 @@
 //! Journals replayed in parts: in whatever number of threads outvalued cuts are looked for, what is written, and what is
 //! refused, is what one thread writes and refuses.
+ghost use Rattle.std.specs.Prelude.{⊤};
+
 use crate::parts::ROOM;
 use crate::work::apt_and_stm;
 use buck_engine::{
-    CrossCheck, EngineFault, Files, Open, Settings, SeveralThreads, Shown, Table, ViewTask,
+    CrossCheck, EngineFault, Files, Nobody, Open, Settings, SeveralThreads, Shown, Table, ViewTask,
     run_check, run_check_with, run_table, run_view, serve_view,
 };
 use buck_journal::ReplayFault;
@@ -91,7 +93,7 @@ fn check<'x, T: Threads + Sync>(
         rule: None,
         settings: Settings::own(),
     };
-    let workers = SeveralThreads::of(rt, threads);
+    let workers = SeveralThreads::of(rt, threads, &Nobody);
     run_check_with(&workers, alloc, &by, &mut apt, &mut jrn, &mut [], out)
 }
 
@@ -113,7 +115,7 @@ fn show<'x, T: Threads + Sync>(
         settings: Settings::own(),
         threads,
     };
-    serve_view(rt, alloc, &task, &mut Shelf { apt, jrn }, out)
+    serve_view(rt, alloc, &task, &Nobody, &mut Shelf { apt, jrn }, out)
 }
 
 /// What so many threads make of an instruction file and a journal, or an engine without threads if no number is given.

@@ -3,10 +3,11 @@
 use buck_record::{is_done, next_in, slot};
 
 /// A slot, a text that begins with an item in it, its rest, and what is left.
-const FRONTS: [(u16, u16, &str, &str, &str); 14] = [
+const FRONTS: [(u16, u16, &str, &str, &str); 15] = [
     (7, 1, "7 1 a b~7 1 c~", "a b", "7 1 c~"),
     (7, 1, "7 1 a b", "a b", ""),
     (7, 1, "\r\n 07\t1 \n a  b \n~~", "a  b", "~"),
+    (7, 1, "~ ~7 1 a~", "a", ""),
     (7, 1, "7 1~x", "", "x"),
     (7, 1, "\n7 1 a b~\n7 1 c~", "a b", "\n7 1 c~"),
     (7, 1, "7 1 a b ~", "a b", ""),
@@ -51,5 +52,5 @@ fn are_done(texts: &[&str]) -> bool {
 
 #[test]
 fn ends_of_files(rt: HostRuntime) {
-    assert!(rt; are_done(&["", " \n", "~", " ~"]));
+    assert!(rt; are_done(&["", " \n", "~", " ~", "~~ \n~"]));
 }

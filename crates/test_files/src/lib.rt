@@ -18,6 +18,8 @@ mod memory;
 #[cfg(test)]
 mod numbers;
 #[cfg(test)]
+mod parts;
+#[cfg(test)]
 mod profiles;
 #[cfg(test)]
 mod stems;

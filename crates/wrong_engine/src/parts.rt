@@ -11,7 +11,7 @@ ghost use Rattle.buck_engine.specs.run.Reading.{apt_with};
 ghost use Rattle.buck_engine.specs.text.Bucking.{CutStem, IsBucking, base_sheet, text_of};
 ghost use Rattle.wrong_engine.specs.Texts.{first_half, halves_swapped};
 
-use buck_engine::{CrossCheck, SeveralThreads, run_buck_in_parts, run_check_with};
+use buck_engine::{CrossCheck, Nobody, SeveralThreads, run_buck_in_parts, run_check_with};
 use std::alloc::Global;
 use std::thread::Threads;
 
@@ -78,7 +78,7 @@ pub fn last_part_unjudged<'x, T: Threads + Sync>(
     let mut instruction = apt;
     let mut postings = journal;
     let right = run_check_with(
-        &SeveralThreads::of(rt, Some(2)),
+        &SeveralThreads::of(rt, Some(2), &Nobody),
         alloc,
         by,
         &mut instruction,

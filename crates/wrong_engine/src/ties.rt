@@ -11,7 +11,7 @@ ghost use Rattle.buck_engine.specs.tie.Ties.{FollowsRule, stems_by};
 
 use crate::opened::Missing;
 use buck_engine::{
-    CheckFault, CheckTask, CrossCheck, EngineFault, OneThread, Settings, run_check_with,
+    CheckFault, CheckTask, CrossCheck, EngineFault, Nobody, OneThread, Settings, run_check_with,
     serve_check, status,
 };
 use buck_rule::NamedRule;
@@ -178,7 +178,7 @@ pub fn tied_check_files_swapped<T: Threads + Sync>(
         threads: Some(2),
     };
     let mut opener = Missing { asked: 0 };
-    let _ = serve_check(rt, alloc, &task, &mut opener, output);
+    let _ = serve_check(rt, alloc, &task, &Nobody, &mut opener, output);
     let right = opener.asked;
     let wrong = "stems.jrn".len();
     prove!(right != wrong);

@@ -10,8 +10,8 @@ ghost use Rattle.buck_engine.specs.run.Reading.{apt_with};
 
 use crate::opened::Missing;
 use buck_engine::{
-    EngineFault, Files, Open, Settings, Shown, Table, ViewTask, conclude, run_table, run_view,
-    serve_view,
+    EngineFault, Files, Nobody, Open, Settings, Shown, Table, ViewTask, conclude, run_table,
+    run_view, serve_view,
 };
 use std::alloc::Global;
 use std::io;
@@ -186,7 +186,7 @@ pub fn view_files_swapped<T: Threads + Sync>(rt: &T, alloc: Global, output: &mut
         threads: Some(2),
     };
     let mut files = Missing { asked: 0 };
-    let _ = serve_view(rt, alloc, &task, &mut files, output);
+    let _ = serve_view(rt, alloc, &task, &Nobody, &mut files, output);
     let right = files.asked;
     let wrong = "stems.jrn".len();
     prove!(right != wrong);
@@ -224,7 +224,7 @@ pub fn second_journal_missing_told_as_the_first<T: Threads + Sync>(
     };
     let mut files = Firsts { left: 2 };
     let mut errors = Vec::new(alloc);
-    let outcome = serve_view(rt, alloc, &task, &mut files, output);
+    let outcome = serve_view(rt, alloc, &task, &Nobody, &mut files, output);
     let _ = conclude(&mut errors, &outcome);
     let wrong = b"read fault 1\n".as_slice();
     prove!(errors.as_slice() != wrong);
@@ -241,7 +241,7 @@ pub fn table_of_two_written_before_the_fault<T: Threads + Sync, O: Open>(
         return;
     };
     let mut output = Vec::new(alloc);
-    let outcome = serve_view(rt, alloc, &task, files, &mut output);
+    let outcome = serve_view(rt, alloc, &task, &Nobody, files, &mut output);
     if conclude(errors, &outcome) == 4 {
         let is_unwritten = output.is_empty();
         prove!(is_unwritten);
@@ -299,7 +299,7 @@ pub fn second_journal_not_replayed<'x, T: Threads + Sync>(
         first,
         second,
     };
-    let outcome = serve_view(rt, alloc, &task, &mut files, output);
+    let outcome = serve_view(rt, alloc, &task, &Nobody, &mut files, output);
     let right = conclude(errors, &outcome);
     let wrong = 0;
     prove!(right != wrong);

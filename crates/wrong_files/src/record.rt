@@ -5,6 +5,7 @@ ghost use Rattle.std.specs.Prelude.{◌≡◌, ◌≤◌, ◌+◌, ◌*◌, [], 
 ghost use Rattle.buck_record.specs.checking.Check.{check, each, make_each};
 ghost use Rattle.buck_record.specs.Reading.{Gives, with_fault};
 ghost use Rattle.buck_record.specs.bytes.Record.{items_of};
+ghost use Rattle.buck_record.specs.checking.Table.{only_in};
 ghost use Rattle.buck_record.specs.declared.fault.RecordFault.TheVariants.{Memory, Head, Digits};
 
 use buck_apt::AptFault;
@@ -16,8 +17,8 @@ use buck_record::rules::{
 use buck_record::table::{count, front, groups, missing, rest, twice};
 use buck_record::{
     FaultNumbers, FormFault, Group, Listed, Numbered, Piece, RecordFault, Slot, is_done, items,
-    next_in, number, numbers, numbers_into, pieces, pieces_at, put_after, put_line, put_number,
-    slot, two_parts, wide,
+    next_in, number, numbers, numbers_into, past_others, pieces, pieces_at, put_after, put_line,
+    put_number, slot, two_parts, wide,
 };
 use std::alloc::Global;
 
@@ -176,6 +177,19 @@ fn has_no_items(text: &[u8]) -> bool
 /// A text with an item is said to have none.
 pub fn done_before_the_last_items() {
     let right = has_no_items(b"1 2 APT");
+    let wrong = true;
+    prove!(right != wrong);
+}
+
+fn has_none_in(slots: &[Slot], text: &[u8]) -> bool
+    ensures { IsTrue result → only_in slots.now (items_of text.now) ≡ Ok [] }
+{
+    is_done(past_others(slots, text))
+}
+
+/// An item is passed over that stands in one of the slots.
+pub fn past_others_past_all() {
+    let right = has_none_in(&[LOWER], b"915 1 100");
     let wrong = true;
     prove!(right != wrong);
 }

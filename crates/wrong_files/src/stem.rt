@@ -98,6 +98,19 @@ pub fn read_stem_lost(alloc: Global) {
     prove!(right != wrong);
 }
 
+/// The stems end at an item that is in no slot.
+pub fn read_up_to_a_skipped_item(alloc: Global) {
+    let Ok(stems) = read_stm(
+        alloc,
+        b"1 2 STM~951 1 7~952 1 1~953 1 300 290~3 1 a~951 1 8~952 1 1~953 1 300~",
+    ) else {
+        return;
+    };
+    let right = stems.len();
+    let wrong = 1;
+    prove!(right != wrong);
+}
+
 /// Of two parts that are read side by side, the second comes first.
 pub fn later_part_read_first<T: Threads + Sync>(rt: &T, alloc: Global) {
     let file = b"1 2 STM~951 1 7~952 1 1~953 1 300 290~951 1 8~952 1 1~953 1 300~";

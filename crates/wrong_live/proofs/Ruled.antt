@@ -19,7 +19,7 @@ use Rattle.buck_engine.proofs.Statuses.{never_0}
 use Rattle.buck_live.specs.declared.serving.LiveTask.{LiveTask}
 use Rattle.buck_cutter.specs.Cut.{StaysByRule, opening}
 use Rattle.buck_live.specs.Live.{IsLiveRun}
-use Rattle.buck_live.specs.Serving.{AnswersLive, IsLive, KeepsJournal, RunsApt, RunsLive, RunsMade}
+use Rattle.buck_live.specs.Serving.{AnswersLive, KeepsJournal, RunsApt, RunsLive, RunsMade}
 
 -- the journal of a run is that of a history by the rule that it was opened with
 pub another_rule : {F : Type 0} (g : Calls F) (opened after : BookParts F) (rule : F) (i : InstructionParts)
@@ -57,20 +57,15 @@ first_1 : (OfJournal : OfWriter) (before after : HistoryParts) (input old new : 
 first_1 OfJournal before after input old new (Ok u) ran k run e = run_1 before after input old new ran run e
 first_1 OfJournal before after input old new (Err fault) ran k run e = kept_1 OfJournal after fault k e
 
-live_1 : (ByRule : HistoryParts → Type 0) (i : InstructionParts) (input : Option (List ℕ)) (OfJournal : OfWriter)
-    (old new : Option (List ℕ)) (outcome : Result (Unit {0}) EngineFault)
-    → IsLive ByRule i input OfJournal old new outcome → status_after outcome ≡ 1 → ⊥
-live_1 ByRule i input OfJournal old new outcome live e =
-    first_1 OfJournal (opening i) live.history input old new live.kept live.ran live.journal live.run
-    (ap (λ o. status_after o) (sym live.outcome_is) ∙ e)
-
 -- if the status is 1, nothing was read
 unread_1 : (task : LiveTask) (apt input : Option (List ℕ)) (Unread : Type 0) (OfJournal : OfWriter)
     (old new : Option (List ℕ)) (outcome : Result (Unit {0}) EngineFault)
     → AnswersLive task apt input Unread OfJournal old new outcome → status_after outcome ≡ 1 → Unread
 unread_1 task apt input Unread OfJournal old new outcome (inl refused) e = refused.unread
 unread_1 task apt input Unread OfJournal old new outcome (inr opened) e =
-    absurd (live_1 _ _ input OfJournal old new outcome opened.live e)
+    absurd
+    (first_1 OfJournal _ opened.history input old new opened.kept opened.ran opened.journal opened.run
+    (ap (λ o. status_after o) (sym opened.outcome_is) ∙ e))
 
 unread_made : {M : Type 0} (contents : M → Option (List ℕ)) (task : LiveTask) (apt input : Option (List ℕ))
     (Unread : Type 0) (made : Result (Option M) EngineFault) (old new : Option (List ℕ))
@@ -121,13 +116,12 @@ answered_0 : (task : LiveTask) (apt input : Option (List ℕ)) (Unread : Type 0)
 answered_0 task apt input Unread OfJournal old new outcome (inl refused) e =
     absurd (fault_0 outcome refused.fault refused.outcome_is e)
 answered_0 task apt input Unread OfJournal old new outcome (inr opened) e =
-    let live = opened.live in
     let i = with_settings task.settings opened.own in
-    let ran = first_0 live.kept live.ran (ap (λ o. status_after o) (sym live.outcome_is) ∙ e) in (
+    let ran = first_0 opened.kept opened.ran (ap (λ o. status_after o) (sym opened.outcome_is) ∙ e) in (
       i,
-      live.history,
-      live.by_rule,
-      subst (λ (r : Result (Unit {0}) EngineFault). IsLiveRun (opening i) input old new r live.history) ran live.run,
+      opened.history,
+      opened.by_rule,
+      subst (λ (r : Result (Unit {0}) EngineFault). IsLiveRun (opening i) input old new r opened.history) ran opened.run,
     )
 
 answered_made : {M : Type 0} (contents : M → Option (List ℕ)) (task : LiveTask) (apt input : Option (List ℕ))

@@ -13,7 +13,7 @@ ghost use Rattle.buck_cutter.specs.Cut.{opening};
 ghost use Rattle.buck_live.specs.Live.{IsLiveRun};
 
 use buck_apt::Instruction;
-use buck_engine::{EngineFault, Make, Open, conclude};
+use buck_engine::{EngineFault, Make, Nobody, Open, conclude};
 use buck_live::{Live, LiveTask, Replies, read_request, serve_live};
 use buck_rule::{Rule, Standing};
 use std::alloc::Global;
@@ -118,7 +118,7 @@ pub fn task_by_another_rule<'x, O: Open + Make>(
 {
     let mut input = requests;
     let mut right = Vec::new(alloc);
-    let outcome = serve_live(alloc, task, &mut input, opener, &mut right);
+    let outcome = serve_live(alloc, task, &Nobody, &mut input, opener, &mut right);
     let status = conclude(errors, &outcome);
     if status == 0 {
         prove!(right.as_slice() != wrong);
@@ -135,7 +135,7 @@ pub fn requests_read_by_no_instruction<'x, O: Open + Make>(
     errors: &mut Vec<u8>,
 ) {
     let mut input = requests;
-    let outcome = serve_live(alloc, task, &mut input, opener, output);
+    let outcome = serve_live(alloc, task, &Nobody, &mut input, opener, output);
     let status = conclude(errors, &outcome);
     let refused = 1;
     if status == refused {

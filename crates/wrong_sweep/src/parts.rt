@@ -1,11 +1,11 @@
 //! Wrong bodies of a table whose runs are done in several threads at once.
-ghost use Rattle.std.specs.Prelude.{◌≡◌, ◌++◌, ℕ, List, Option, Some, map};
+ghost use Rattle.std.specs.Prelude.{◌≡◌, ◌++◌, ◌∷◌, [], ℕ, List, Option, Some, map};
 ghost use Rattle.buck_rule.specs.declared.named.NamedRule.TheVariants.{Steady, Step};
 ghost use Rattle.buck_sweep.specs.Sweep.{IsLineOver};
 ghost use Rattle.wrong_sweep.specs.Texts.{StandsIn, own_run};
 
-use buck_rule::NamedRule;
-use buck_sweep::{Combination, Settings, run_sweep_in_parts};
+use buck_engine::Nobody;
+use buck_sweep::{SweepTask, run_sweep_in_parts};
 use std::alloc::Global;
 use std::thread::Threads;
 
@@ -14,36 +14,20 @@ use std::thread::Threads;
 pub fn parts_swapped<'x, T: Threads + Sync>(
     rt: &T,
     alloc: Global,
+    task: &SweepTask<'_>,
     apt: &'x [u8],
     stms: &mut [&'x [u8]],
     wrong: &[u8],
 )
+    requires runs { task.now.combinations.items ≡ own_run Steady ∷ own_run Step ∷ [] }
     requires other { (one two : List ℕ)
         → IsLineOver (Some apt.now) (map (λ s. Some s.now) stms.old) (own_run Steady) one
         → IsLineOver (Some apt.now) (map (λ s. Some s.now) stms.old) (own_run Step) two
         → StandsIn (one ++ two) wrong.now → ⊥ }
 {
-    let runs = [
-        Combination {
-            rule: NamedRule::Steady,
-            settings: Settings::own(),
-        },
-        Combination {
-            rule: NamedRule::Step,
-            settings: Settings::own(),
-        },
-    ];
     let mut instruction = apt;
     let mut right = Vec::new(alloc);
-    let outcome = run_sweep_in_parts(
-        rt,
-        alloc,
-        Some(2),
-        &runs,
-        &mut instruction,
-        stms,
-        &mut right,
-    );
+    let outcome = run_sweep_in_parts(rt, alloc, task, &Nobody, &mut instruction, stms, &mut right);
     if let Ok(()) = outcome {
         prove!(right.as_slice() != wrong);
     }

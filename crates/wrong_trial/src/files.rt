@@ -6,7 +6,7 @@ ghost use Rattle.buck_terms.specs.Targets.{HasTargets};
 ghost use Rattle.buck_trial.specs.Inputs.{held_with};
 
 use buck_apt::Instruction;
-use buck_engine::{EngineFault, Open};
+use buck_engine::{EngineFault, Nobody, Open};
 use buck_terms::{
     TargetsFault, TermsFault, conclude_terms, open_last, open_more, read_own, read_wanted, status,
     write_terms_fault,
@@ -138,7 +138,7 @@ pub fn contract_told_before_the_targets<'x, T: Threads + Sync>(
     let Some(files) = opened(alloc, apt, stm, targets, own) else {
         return;
     };
-    let outcome = run_owned(rt, alloc, task, files, out);
+    let outcome = run_owned(rt, alloc, task, &Nobody, files, out);
     if let Err(TermsFault::Own(_why)) = outcome {
         let is_told = true;
         prove!(!is_told);

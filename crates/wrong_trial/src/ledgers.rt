@@ -15,7 +15,7 @@ ghost use Rattle.buck_ledger.specs.Text.{whole_line};
 ghost use Rattle.buck_ledger.specs.declared.appraisal.Appraisal.{Appraisal};
 ghost use Rattle.wrong_trial.specs.Texts.{StandsIn};
 
-use buck_engine::{EngineFault, SeveralThreads};
+use buck_engine::{EngineFault, Nobody, SeveralThreads};
 use buck_ledger::{AppraiseTask, CompareTask, Opened, run_appraise, run_compare};
 use buck_terms::TermsFault;
 use std::alloc::Global;
@@ -60,7 +60,7 @@ pub fn appraisal_of_an_unlawful_journal<'x, T: Threads + Sync>(
         return;
     };
     let right = run_appraise(
-        &SeveralThreads::of(rt, task.threads),
+        &SeveralThreads::of(rt, task.threads, &Nobody),
         alloc,
         &task.settings,
         files,
@@ -86,7 +86,7 @@ pub fn journal_told_before_the_owners_instruction<'x, T: Threads + Sync>(
         return;
     };
     let outcome = run_appraise(
-        &SeveralThreads::of(rt, task.threads),
+        &SeveralThreads::of(rt, task.threads, &Nobody),
         alloc,
         &task.settings,
         files,
@@ -107,7 +107,7 @@ pub fn appraisal_written_before_the_fault<'x, T: Threads + Sync>(
 ) {
     let mut out = Vec::new(alloc);
     let outcome = run_appraise(
-        &SeveralThreads::of(rt, task.threads),
+        &SeveralThreads::of(rt, task.threads, &Nobody),
         alloc,
         &task.settings,
         files,
@@ -133,7 +133,7 @@ pub fn appraisal_without_the_line_of_all<'x, T: Threads + Sync>(
 {
     let mut right = Vec::new(alloc);
     let outcome = run_appraise(
-        &SeveralThreads::of(rt, task.threads),
+        &SeveralThreads::of(rt, task.threads, &Nobody),
         alloc,
         &task.settings,
         files,
@@ -160,7 +160,7 @@ pub fn comparison_by_the_numbers_of_the_first<'x, T: Threads + Sync>(
     let mut instruction = apt;
     let mut journals = [first, second];
     let right = run_compare(
-        &SeveralThreads::of(rt, task.threads),
+        &SeveralThreads::of(rt, task.threads, &Nobody),
         alloc,
         task,
         &mut instruction,
@@ -187,7 +187,7 @@ pub fn comparison_of_too_many_postings<'x, T: Threads + Sync>(
     let mut instruction = apt;
     let mut journals = [first, second];
     let right = run_compare(
-        &SeveralThreads::of(rt, task.threads),
+        &SeveralThreads::of(rt, task.threads, &Nobody),
         alloc,
         task,
         &mut instruction,
@@ -211,7 +211,7 @@ pub fn comparison_written_before_the_fault<'x, T: Threads + Sync>(
     let mut journals = [first, second];
     let mut out = Vec::new(alloc);
     let outcome = run_compare(
-        &SeveralThreads::of(rt, task.threads),
+        &SeveralThreads::of(rt, task.threads, &Nobody),
         alloc,
         task,
         &mut instruction,

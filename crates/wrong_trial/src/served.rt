@@ -75,7 +75,7 @@ pub fn appraise_opens_the_owners_instruction_first<T: Threads + Sync>(
         threads: Some(2),
     };
     let mut files = Missing { asked: 0 };
-    let _ = serve_appraise(rt, alloc, &task, &mut files, output);
+    let _ = serve_appraise(rt, alloc, &task, &Nobody, &mut files, output);
     let right = files.asked;
     let wrong = "owners_own.apt".len();
     prove!(right != wrong);
@@ -95,7 +95,7 @@ pub fn compare_opens_a_journal_first<T: Threads + Sync>(
         threads: Some(2),
     };
     let mut files = Missing { asked: 0 };
-    let _ = serve_compare(rt, alloc, &task, &mut files, output);
+    let _ = serve_compare(rt, alloc, &task, &Nobody, &mut files, output);
     let right = files.asked;
     let wrong = "monday.jrn".len();
     prove!(right != wrong);

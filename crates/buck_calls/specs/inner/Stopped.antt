@@ -29,7 +29,7 @@ abbrev pub AreUncombined : List RunAsked → Stop → Type 0
 AreUncombined runs stop =
     (stop ≡ out_of_memory) ⊎ ((stop ≡ Misused) × ((cs : List Combination) → AllZip IsCombination runs cs → ⊥))
 
--- the text of an answer, and the status that goes with it: of a fault its line; nothing where the call is misused
+-- the text of an answer, and the status that goes with it: of a fault its line; nothing if the call is misused
 abbrev pub text_in : Result (List ℕ) Stop → List ℕ
 text_in (Ok text) = text
 text_in (Err Misused) = []

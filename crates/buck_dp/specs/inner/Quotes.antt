@@ -142,7 +142,7 @@ pub record AreQuotes (s : SheetParts) (offers : List Offer) (ask : Ask) (quotes 
   pub met : (steps trim d : ℕ) (bid : BidParts) → IsAsked ask.band d → IsTakersBid s offers ask.takers d steps trim bid
       → (q : Quote) × Contains quotes q × Meets (cell_of 0 d q) steps bid × (q.term.trim ≤ trim)
 
--- a term has a class, and is a quote at each price of that wherever its assortment is a taker
+-- a term has a class, and is a quote at each price of that if its assortment is a taker
 pub record IsTerm (i : InstructionParts) (offers : List Offer) (band : Band) (t : Term) : Type 0 where
   pub class : t.class < classes i
   pub few : t.assortment < 16

@@ -10,6 +10,7 @@ ghost use Rattle.buck_engine.specs.fleet.Running.{AreListsOf, AreNoSeats, IsFlee
 
 use crate::fault::EngineFault;
 use crate::run::reading::{read_instruction, read_stems};
+use crate::run::workers::Workers;
 use buck_apt::{Instruction, Settings};
 use buck_stem::Stem;
 use std::alloc::Global;
@@ -29,23 +30,27 @@ fn share(alloc: Global, stems: Vec<Stem>) -> Result<Vec<Arc<Stem>>, EngineFault>
 }
 
 /// The stems of the stem file of this number.
-fn stems_of_file<R: io::Read>(
+fn stems_of_file<T: Workers, R: io::Read>(
+    workers: &T,
     alloc: Global,
     reader: &mut R,
     file: u32,
 ) -> Result<Vec<Arc<Stem>>, EngineFault>
+    requires share { T.can_share }
     ensures ok { IfOk result (λ list. Says stm_of (R.remaining reader.old) (Ok (stems_of list.items))) }
     ensures refused { IfErr result (IsStmFault file (R.remaining reader.old)) }
 {
-    let stems = read_stems(alloc, reader, file)?;
+    let stems = read_stems(workers, alloc, reader, file)?;
     share(alloc, stems)
 }
 
 /// The stems of all stem files, file by file: each is read, and refused if it must be, before the next.
-pub(crate) fn read_lists<R: io::Read>(
+pub(crate) fn read_lists<T: Workers, R: io::Read>(
+    workers: &T,
     alloc: Global,
     stms: &mut [R],
 ) -> Result<Vec<Vec<Arc<Stem>>>, EngineFault>
+    requires share { T.can_share }
     requires few { length stms.old ≤ 64 }
     ensures number { IfOk result (λ lists. length lists.items ≡ length stms.old) }
     ensures lists { IfOk result (λ lists. AreListsOf (length stms.old) (map R.remaining stms.old) lists.items) }
@@ -54,7 +59,7 @@ pub(crate) fn read_lists<R: io::Read>(
 {
     let mut lists = Vec::new(alloc);
     for k in 0..stms.len() {
-        match stems_of_file(alloc, &mut stms[k], k as u32 + 1) {
+        match stems_of_file(workers, alloc, &mut stms[k], k as u32 + 1) {
             Ok(list) => lists.push(list)?,
             Err(fault) => return Err(fault),
         }
@@ -87,12 +92,14 @@ pub struct Input {
 
 /// Reads an instruction file and stem files, if there are 1 to 64 stem files: else `Seats`, before anything is read.
 /// The instruction file is file 0, the k-th stem file is file k; each is read, and refused if it must be, before the
-/// next, as [`run_in_turn`](crate::run_in_turn) says.
-pub fn read_input<R: io::Read>(
+/// next, as [`run_in_turn`](crate::run_in_turn) says. Whoever looks on at the workers is shown the instruction.
+pub fn read_input<T: Workers, R: io::Read>(
+    workers: &T,
     alloc: Global,
     apt: &mut R,
     stms: &mut [R],
 ) -> Result<Input, EngineFault>
+    requires share { T.can_share }
     ensures seats { AreNoSeats (length stms.old) → IsErrAnd result (λ fault. fault ≡ Seats) }
     ensures some { OnOk result ((0 < length stms.old) × (length stms.old ≤ 64)) }
     ensures instruction { IfOk result (λ input. Says apt_of (R.remaining apt.old) (Ok input.instruction)) }
@@ -106,18 +113,21 @@ pub fn read_input<R: io::Read>(
 {
     check_seats(stms.len())?;
     let instruction = read_instruction(alloc, apt)?;
-    let lists = read_lists(alloc, stms)?;
+    workers.show(&instruction);
+    let lists = read_lists(workers, alloc, stms)?;
     Ok(Input { instruction, lists })
 }
 
 /// [`read_input`], with a run's numbers in the place of the instruction's own, by which it is read and refused.
 #[tactic(auto, using(crate::proofs::Numbers::says_with))]
-pub(crate) fn read_input_with<R: io::Read>(
+pub(crate) fn read_input_with<T: Workers, R: io::Read>(
+    workers: &T,
     alloc: Global,
     apt: &mut R,
     stms: &mut [R],
     settings: &Settings,
 ) -> Result<Input, EngineFault>
+    requires share { T.can_share }
     ensures seats { AreNoSeats (length stms.old) → IsErrAnd result (λ fault. fault ≡ Seats) }
     ensures some { OnOk result ((0 < length stms.old) × (length stms.old ≤ 64)) }
     ensures instruction { IfOk result (λ input.
@@ -131,7 +141,7 @@ pub(crate) fn read_input_with<R: io::Read>(
     ensures order { IfErr result (IfStopped (λ last. drop last stms.new ≡ drop last stms.old)) }
     ensures unread { IfErr result (λ fault. fault ≡ Seats → apt.new ≡ apt.old) }
 {
-    let Input { instruction, lists } = read_input(alloc, apt, stms)?;
+    let Input { instruction, lists } = read_input(workers, alloc, apt, stms)?;
     Ok(Input {
         instruction: instruction.with(settings),
         lists,

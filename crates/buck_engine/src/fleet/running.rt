@@ -14,6 +14,7 @@ use crate::fleet::cutting::cut_lists;
 use crate::fleet::lists::{Input, number_of_stems, read_input_with};
 use crate::fleet::writing::{write_journal_and_report, write_report};
 use crate::run::onlooker::{Nobody, Onlooker};
+use crate::run::workers::SeveralThreads;
 use buck_apt::Settings;
 use buck_fleet::Closed;
 use buck_rule::{Rule, Standing};
@@ -46,7 +47,9 @@ pub(crate) fn cut_files<
     ensures order { IfErr result (IfStopped (λ last. drop last stms.new ≡ drop last stms.old)) }
     ensures unread { IfErr result (λ fault. fault ≡ Seats → apt.new ≡ apt.old) }
 {
-    let Input { instruction, lists } = read_input_with(alloc, apt, stms, settings)?;
+    // The onlooker is shown the instruction with the stems.
+    let workers = SeveralThreads::of(rt, None, &Nobody);
+    let Input { instruction, lists } = read_input_with(&workers, alloc, apt, stms, settings)?;
     onlooker.read(&instruction, lists.as_slice());
     onlooker.cutting(number_of_stems(lists.as_slice()));
     cut_lists(rt, alloc, instruction, rule, lists.as_slice(), onlooker)

@@ -18,6 +18,7 @@ use crate::fault::EngineFault;
 use crate::fleet::lists::{Input, number_of_stems, read_input_with};
 use crate::fleet::writing::{write_journal_and_report, write_report};
 use crate::run::onlooker::{Nobody, Onlooker};
+use crate::run::workers::OneThread;
 use buck_apt::{Instruction, Settings};
 use buck_book::{CutFault, Parts};
 use buck_rule::{Rule, Standing};
@@ -71,7 +72,7 @@ pub(crate) fn cut_files_in_turn<F: Fn(&Standing) -> u64 + Drop, R: io::Read, O: 
     ensures order { IfErr result (IfStopped (λ last. drop last stms.new ≡ drop last stms.old)) }
     ensures unread { IfErr result (λ fault. fault ≡ Seats → apt.new ≡ apt.old) }
 {
-    let Input { instruction, lists } = read_input_with(alloc, apt, stms, settings)?;
+    let Input { instruction, lists } = read_input_with(&OneThread, alloc, apt, stms, settings)?;
     onlooker.read(&instruction, lists.as_slice());
     onlooker.cutting(number_of_stems(lists.as_slice()));
     cut_lists(alloc, instruction, rule, lists.as_slice())

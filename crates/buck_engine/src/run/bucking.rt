@@ -12,6 +12,7 @@ ghost use Rattle.buck_engine.specs.inner.Reading.{AnswersBytes};
 use crate::fault::EngineFault;
 use crate::run::onlooker::{Nobody, Onlooker};
 use crate::run::reading::{instruction_in, read_file, read_instruction, read_stems, stems_in};
+use crate::run::workers::OneThread;
 use crate::text::bucking::buck_text;
 use crate::text::writing::write_text;
 use bstr::ByteSlice;
@@ -57,7 +58,7 @@ pub(crate) fn text_of_two<L: Onlooker, R: io::Read>(
     ensures order { IfErr result (IfStopped (λ last. last ≡ 0 → stm.new ≡ stm.old)) }
 {
     let instruction = read_instruction(alloc, apt)?;
-    let stems = read_stems(alloc, stm, 1)?;
+    let stems = read_stems(&OneThread, alloc, stm, 1)?;
     onlooker.read(&instruction, from_ref(&stems));
     Ok(buck_text(alloc, &instruction, stems.as_slice())?)
 }
@@ -97,7 +98,7 @@ fn text_of_parts<L: Onlooker>(
     ensures { AnswersBytes (before_first is_bar input.now) (after_first is_bar input.now) (listed result) }
 {
     let instruction = instruction_in(alloc, apt_part(input))?;
-    let stems = stems_in(alloc, stm_part(input), 1)?;
+    let stems = stems_in(&OneThread, alloc, stm_part(input), 1)?;
     onlooker.read(&instruction, from_ref(&stems));
     Ok(buck_text(alloc, &instruction, stems.as_slice())?)
 }

@@ -10,9 +10,11 @@ ghost use Rattle.buck_engine.specs.text.Written.{WritesText};
 
 use crate::fault::EngineFault;
 use crate::run::both::{Both, read_own, replay_both, unlawful};
+use crate::run::onlooker::{Nobody, Onlooker};
 use crate::text::writing::write_text;
 use buck_journal::ReplayFault;
 use buck_record::{Memory, put_line};
+use buck_stem::Stem;
 use std::alloc::Global;
 use std::io;
 
@@ -42,9 +44,10 @@ pub(crate) fn text_of_both(
     }
 }
 
-/// The line of the journal of a file that is lawful for the instruction of another.
-fn text_of_check<R: io::Read>(
+/// The line of the journal of a file that is lawful for the instruction of another, which an onlooker is shown.
+pub(crate) fn text_of_check<L: Onlooker, R: io::Read>(
     alloc: Global,
+    onlooker: &L,
     apt: &mut R,
     journal: &mut R,
 ) -> Result<Vec<u8>, EngineFault>
@@ -52,6 +55,7 @@ fn text_of_check<R: io::Read>(
     ensures order { IfErr result (IfStopped (λ last. last ≡ 0 → journal.new ≡ journal.old)) }
 {
     let both = read_own(alloc, apt, journal)?;
+    onlooker.read::<Stem>(&both.instruction, &[]);
     text_of_both(alloc, &both, replay_both(alloc, &both))
 }
 
@@ -78,6 +82,6 @@ pub fn run_check<R: io::Read, W: io::Write>(
     // Only a failed write touches the writer.
     ensures untouched { IfErr result (λ fault. fault ≢ Write → writer.new ≡ writer.old) }
 {
-    let text = text_of_check(alloc, apt, journal)?;
+    let text = text_of_check(alloc, &Nobody, apt, journal)?;
     write_text(writer, text.as_slice())
 }

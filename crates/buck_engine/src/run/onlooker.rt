@@ -24,7 +24,7 @@ impl HasStem for Arc<Stem> {
 /// What the threads of a run show of its work while it goes on. Nothing that a run writes depends on it.
 pub trait Onlooker {
     /// All files are read, and their stems are about to be cut: the instruction, with the numbers of the run, and the
-    /// stems of each stem file.
+    /// stems of each stem file. A run that cuts none, or cuts them more than once, shows the instruction alone.
     fn read<S: HasStem>(&self, _instruction: &Instruction, _files: &[Vec<S>]) {}
 
     /// So many stems are to be cut by a fleet.

@@ -1,5 +1,5 @@
 //! `run_buck_in_parts`: a bucking whose stems are read and cut in several threads at once.
-ghost use Rattle.std.specs.Prelude.{◌≡◌, ◌≢◌, ◌<◌, IfErr};
+ghost use Rattle.std.specs.Prelude.{◌≡◌, ◌≢◌, IfErr};
 ghost use Rattle.buck_engine.specs.declared.fault.EngineFault.TheVariants.{Write};
 ghost use Rattle.buck_engine.specs.text.Written.{WritesText};
 ghost use Rattle.buck_engine.specs.run.Reading.{IfStopped};
@@ -10,8 +10,8 @@ ghost use Rattle.buck_engine.specs.inner.Text.{joined_in};
 use crate::fault::EngineFault;
 use crate::run::onlooker::{Nobody, Onlooker};
 use crate::run::opening::{Open, open_both};
-use crate::run::reading::{read_instruction, read_stems_in_parts};
-use crate::run::workers::number_of_threads;
+use crate::run::reading::{read_instruction, read_stems};
+use crate::run::workers::SeveralThreads;
 use crate::text::bucking::buck_text_in_parts;
 use crate::text::writing::write_pieces;
 use std::alloc::Global;
@@ -30,24 +30,22 @@ pub struct BuckTask<'a> {
     pub threads: Option<u8>,
 }
 
-/// The text of an instruction file and a stem file in pieces, whose stems are read and cut in at most so many threads at
-/// once. An onlooker is shown the files.
+/// The text of an instruction file and a stem file in pieces, whose stems are read and cut in several threads at once.
+/// Whoever looks on is shown the files.
 fn text_in_parts<T: Threads + Sync, L: Onlooker, R: io::Read>(
-    rt: &T,
     alloc: Global,
-    threads: usize,
-    onlooker: &L,
+    workers: &SeveralThreads<'_, T, L>,
     apt: &mut R,
     stm: &mut R,
 ) -> Result<Vec<Vec<u8>>, EngineFault>
-    requires threads { 0 < threads }
     ensures answer { AnswersBuck (R.remaining apt.old) (R.remaining stm.old) (joined_in result) }
     ensures order { IfErr result (IfStopped (λ last. last ≡ 0 → stm.new ≡ stm.old)) }
 {
     let instruction = read_instruction(alloc, apt)?;
-    let stems = read_stems_in_parts(rt, alloc, stm, 1, threads)?;
-    onlooker.read(&instruction, from_ref(&stems));
-    Ok(buck_text_in_parts(rt, alloc, &instruction, stems.as_slice(), threads)?)
+    let stems = read_stems(workers, alloc, stm, 1)?;
+    workers.onlooker.read(&instruction, from_ref(&stems));
+    let stems = stems.as_slice();
+    Ok(buck_text_in_parts(workers.rt, alloc, &instruction, stems, workers.number)?)
 }
 
 /// [`run_buck`](crate::run_buck) with the stems read and cut in several threads at once: in the given number, from 1 to
@@ -70,8 +68,8 @@ pub fn run_buck_in_parts<T: Threads + Sync, R: io::Read, W: io::Write>(
     // Only a failed write touches the writer.
     ensures untouched { IfErr result (λ fault. fault ≢ Write → writer.new ≡ writer.old) }
 {
-    let threads = number_of_threads(rt, threads);
-    let pieces = text_in_parts(rt, alloc, threads, &Nobody, apt, stm)?;
+    let workers = SeveralThreads::of(rt, threads, &Nobody);
+    let pieces = text_in_parts(alloc, &workers, apt, stm)?;
     write_pieces(writer, pieces.as_slice())
 }
 
@@ -88,8 +86,8 @@ fn buck_opened<T: Threads + Sync, L: Onlooker, R: io::Read, W: io::Write>(
     ensures { WritesText (AnswersBuck (R.remaining apt.old) (R.remaining stm.old))
         (W.contents writer.old) (W.contents writer.new) result }
 {
-    let threads = number_of_threads(rt, threads);
-    let pieces = text_in_parts(rt, alloc, threads, onlooker, apt, stm)?;
+    let workers = SeveralThreads::of(rt, threads, onlooker);
+    let pieces = text_in_parts(alloc, &workers, apt, stm)?;
     write_pieces(writer, pieces.as_slice())
 }
 

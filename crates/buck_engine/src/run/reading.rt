@@ -7,11 +7,11 @@ ghost use Rattle.buck_engine.specs.run.Reading.{IsAccepted, IsAptFault, IsStmFau
 ghost use Rattle.buck_engine.specs.inner.Reading.{AreRefused};
 
 use crate::fault::EngineFault;
+use crate::run::workers::Workers;
 use buck_apt::{AptFault, Instruction, Settings, read_apt};
-use buck_stem::{Stem, StmFault, read_stm, read_stm_in_parts};
+use buck_stem::{Stem, StmFault};
 use std::alloc::Global;
 use std::io;
-use std::thread::Threads;
 
 /// The most bytes that a file may have.
 const LIMIT: usize = 67_108_864;
@@ -58,29 +58,17 @@ pub(crate) fn instruction_in(alloc: Global, bytes: &[u8]) -> Result<Instruction,
 }
 
 /// The stems of the bytes of the file of this number.
-pub(crate) fn stems_in(alloc: Global, bytes: &[u8], file: u32) -> Result<Vec<Stem>, EngineFault>
-    ensures ok { IfOk result (λ stems. stm_of bytes.now ≡ Ok stems.items) }
-    ensures refused { IfErr result (AreRefused (Stm file) stm_of bytes.now) }
-{
-    match read_stm(alloc, bytes) {
-        Ok(stems) => Ok(stems),
-        Err(StmFault::Memory) => Err(EngineFault::Memory),
-        Err(fault) => Err(EngineFault::Stm { file, fault }),
-    }
-}
-
-/// [`stems_in`], read in at most so many threads at once.
-fn stems_in_parts<T: Threads + Sync>(
-    rt: &T,
+pub(crate) fn stems_in<T: Workers>(
+    workers: &T,
     alloc: Global,
     bytes: &[u8],
     file: u32,
-    threads: usize,
 ) -> Result<Vec<Stem>, EngineFault>
+    requires share { T.can_share }
     ensures ok { IfOk result (λ stems. stm_of bytes.now ≡ Ok stems.items) }
     ensures refused { IfErr result (AreRefused (Stm file) stm_of bytes.now) }
 {
-    match read_stm_in_parts(rt, alloc, bytes, threads) {
+    match workers.read_stm(alloc, bytes) {
         Ok(stems) => Ok(stems),
         Err(StmFault::Memory) => Err(EngineFault::Memory),
         Err(fault) => Err(EngineFault::Stm { file, fault }),
@@ -113,29 +101,16 @@ pub(crate) fn read_instruction_with<R: io::Read>(
 }
 
 /// The stems that the stem file of this number has.
-pub(crate) fn read_stems<R: io::Read>(
+pub(crate) fn read_stems<T: Workers, R: io::Read>(
+    workers: &T,
     alloc: Global,
     stm: &mut R,
     file: u32,
 ) -> Result<Vec<Stem>, EngineFault>
+    requires share { T.can_share }
     ensures ok { IfOk result (λ stems. Says stm_of (R.remaining stm.old) (Ok stems.items)) }
     ensures refused { IfErr result (IsStmFault file (R.remaining stm.old)) }
 {
     let bytes = read_file(alloc, stm, file)?;
-    stems_in(alloc, bytes.as_slice(), file)
-}
-
-/// [`read_stems`], in at most so many threads at once.
-pub(crate) fn read_stems_in_parts<T: Threads + Sync, R: io::Read>(
-    rt: &T,
-    alloc: Global,
-    stm: &mut R,
-    file: u32,
-    threads: usize,
-) -> Result<Vec<Stem>, EngineFault>
-    ensures ok { IfOk result (λ stems. Says stm_of (R.remaining stm.old) (Ok stems.items)) }
-    ensures refused { IfErr result (IsStmFault file (R.remaining stm.old)) }
-{
-    let bytes = read_file(alloc, stm, file)?;
-    stems_in_parts(rt, alloc, bytes.as_slice(), file, threads)
+    stems_in(workers, alloc, bytes.as_slice(), file)
 }

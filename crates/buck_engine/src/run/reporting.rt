@@ -13,6 +13,7 @@ ghost use Rattle.buck_book.specs.declared.posting.TheConstants.{MOST_POSTINGS};
 
 use crate::fault::{EngineFault, TextFault};
 use crate::run::both::read_postings;
+use crate::run::onlooker::{Nobody, Onlooker};
 use crate::run::reading::read_instruction_with;
 use crate::run::workers::OneThread;
 use crate::text::report::{Ending, report_with};
@@ -20,6 +21,7 @@ use crate::text::writing::write_text;
 use buck_apt::{Instruction, Settings};
 use buck_book::Walk;
 use buck_journal::{Journal, ReplayFault, replay_to_end};
+use buck_stem::Stem;
 use std::alloc::Global;
 use std::io;
 use std::sync::Arc;
@@ -81,9 +83,10 @@ fn text_of_replay(
 }
 
 /// The report of the journal of a file that is lawful for the instruction of another, with a run's numbers in the place
-/// of its own.
-fn text_of_report<R: io::Read>(
+/// of its own. An onlooker is shown the instruction.
+fn text_of_report<L: Onlooker, R: io::Read>(
     alloc: Global,
+    onlooker: &L,
     apt: &mut R,
     journal: &mut R,
     settings: &Settings,
@@ -93,6 +96,7 @@ fn text_of_report<R: io::Read>(
     ensures order { IfErr result (IfStopped (λ last. last ≡ 0 → journal.new ≡ journal.old)) }
 {
     let instruction = Arc::new(alloc, read_instruction_with(alloc, apt, settings)?)?;
+    onlooker.read::<Stem>(&instruction, &[]);
     let postings = read_postings(&OneThread, alloc, journal)?;
     text_of_replay(alloc, &instruction, &postings)
 }
@@ -106,7 +110,7 @@ fn text_of_own_report<R: io::Read>(
     ensures answer { AnswersReport (R.remaining apt.old) (R.remaining journal.old) (listed result) }
     ensures order { IfErr result (IfStopped (λ last. last ≡ 0 → journal.new ≡ journal.old)) }
 {
-    text_of_report(alloc, apt, journal, &Settings::own())
+    text_of_report(alloc, &Nobody, apt, journal, &Settings::own())
 }
 
 /// Reads an instruction file and then a journal, as [`run_check`](crate::run_check) does, and writes the report of the
@@ -131,9 +135,10 @@ pub fn run_report<R: io::Read, W: io::Write>(
     write_text(writer, text.as_slice())
 }
 
-/// [`run_report`] with a run's numbers in the place of the instruction's own.
-pub(crate) fn run_report_with<R: io::Read, W: io::Write>(
+/// [`run_report`] with a run's numbers in the place of the instruction's own. An onlooker is shown the instruction.
+pub(crate) fn run_report_with<L: Onlooker, R: io::Read, W: io::Write>(
     alloc: Global,
+    onlooker: &L,
     apt: &mut R,
     journal: &mut R,
     settings: &Settings,
@@ -143,6 +148,6 @@ pub(crate) fn run_report_with<R: io::Read, W: io::Write>(
         (AnswersJournal (apt_with settings.now) IsJournalReport (R.remaining apt.old) (R.remaining journal.old))
         (W.contents writer.old) (W.contents writer.new) result }
 {
-    let text = text_of_report(alloc, apt, journal, settings)?;
+    let text = text_of_report(alloc, onlooker, apt, journal, settings)?;
     write_text(writer, text.as_slice())
 }

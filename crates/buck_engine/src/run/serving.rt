@@ -11,7 +11,7 @@ ghost use Rattle.buck_engine.specs.run.Serving.{AppendsFirst, RunsFiles, RunsTas
 
 use crate::fault::{EngineFault, status};
 use crate::run::bucking::{text_of_one, text_of_two};
-use crate::run::checking::run_check;
+use crate::run::checking::text_of_check;
 use crate::run::onlooker::Onlooker;
 use crate::run::opening::{Open, open_both};
 use crate::run::reporting::run_report_with;
@@ -88,9 +88,25 @@ fn buck_input<L: Onlooker, R: io::Read, W: io::Write>(
     write_text(writer, text.as_slice())
 }
 
-/// Opens both files by their names, the instruction file first, and then checks the journal.
-fn check_files<O: Open, W: io::Write>(
+/// Checks a journal by an instruction file, whose instruction an onlooker is shown.
+fn check_opened<L: Onlooker, R: io::Read, W: io::Write>(
     alloc: Global,
+    onlooker: &L,
+    apt: &mut R,
+    journal: &mut R,
+    writer: &mut W,
+) -> Result<(), EngineFault>
+    ensures { WritesText (AnswersCheck (R.remaining apt.old) (R.remaining journal.old))
+        (W.contents writer.old) (W.contents writer.new) result }
+{
+    let text = text_of_check(alloc, onlooker, apt, journal)?;
+    write_text(writer, text.as_slice())
+}
+
+/// Opens both files by their names, the instruction file first, and then checks the journal.
+fn check_files<L: Onlooker, O: Open, W: io::Write>(
+    alloc: Global,
+    onlooker: &L,
     opener: &mut O,
     apt: &str,
     journal: &str,
@@ -100,32 +116,14 @@ fn check_files<O: Open, W: io::Write>(
         (W.contents writer.old) (W.contents writer.new) result }
 {
     let (mut instruction, mut journal_file) = open_both(opener, apt, journal)?;
-    run_check(alloc, &mut instruction, &mut journal_file, writer)
+    check_opened(alloc, onlooker, &mut instruction, &mut journal_file, writer)
 }
 
-/// Opens both files by their names, the instruction file first, and then writes the journal's report, with a run's
-/// numbers in the place of the instruction's own.
-fn report_files<O: Open, W: io::Write>(
-    alloc: Global,
-    opener: &mut O,
-    apt: &str,
-    journal: &str,
-    settings: &Settings,
-    writer: &mut W,
-) -> Result<(), EngineFault>
-    ensures { RunsFiles (AnswersJournal (apt_with settings.now) IsJournalReport) O.opens O.File.remaining
-        opener.old opener.new apt.now journal.now
-        (W.contents writer.old) (W.contents writer.new) result }
-{
-    let (mut instruction, mut postings) = open_both(opener, apt, journal)?;
-    run_report_with(alloc, &mut instruction, &mut postings, settings, writer)
-}
-
-/// Does what the task asks for. If stems are cut, the onlooker is shown what was read.
+/// Does what the task asks for. The onlooker is shown the instruction and, if stems are cut, these.
 ///
 /// The files of a task are opened in the order of its words before one of them is read; one that can't be opened is
 /// `Read` with its number. Each fault and what is written before it are those of [`run_buck`](crate::run_buck),
-/// [`run_bare`](crate::run_bare), [`run_check`] and [`run_report`](crate::run_report).
+/// [`run_bare`](crate::run_bare), [`run_check`](crate::run_check) and [`run_report`](crate::run_report).
 pub fn serve<L: Onlooker, R: io::Read, O: Open, W: io::Write>(
     alloc: Global,
     task: &Task<'_>,
@@ -140,12 +138,24 @@ pub fn serve<L: Onlooker, R: io::Read, O: Open, W: io::Write>(
     match task {
         Task::Bare => buck_input(alloc, onlooker, input, writer),
         Task::Buck { apt, stm } => buck_files(alloc, onlooker, opener, *apt, *stm, writer),
-        Task::Check { apt, journal } => check_files(alloc, opener, *apt, *journal, writer),
+        Task::Check { apt, journal } => check_files(
+            alloc, onlooker, opener, *apt, *journal, writer,
+        ),
         Task::Report {
             apt,
             journal,
             settings,
-        } => report_files(alloc, opener, *apt, *journal, settings, writer),
+        } => {
+            let (mut instruction, mut postings) = open_both(opener, *apt, *journal)?;
+            run_report_with(
+                alloc,
+                onlooker,
+                &mut instruction,
+                &mut postings,
+                settings,
+                writer,
+            )
+        }
     }
 }
 

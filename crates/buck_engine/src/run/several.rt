@@ -148,6 +148,7 @@ pub fn read_several<T: Workers, R: io::Read>(
     ensures refused { IfErr result (IsSeveralFault (R.remaining apt.old) (map R.remaining files.old)) }
 {
     let instruction = Arc::new(alloc, read_instruction_with(alloc, apt, settings)?)?;
+    workers.show(&instruction);
     let journals = read_journals(workers, alloc, files)?;
     if !are_few(journals.as_slice()) {
         return Err(EngineFault::Full);

@@ -11,6 +11,7 @@ ghost use Rattle.buck_engine.specs.run.Showing.{RunsView, Shows};
 
 use crate::fault::EngineFault;
 use crate::run::asked::{Shown, ViewTask};
+use crate::run::onlooker::Onlooker;
 use crate::run::opening::{Open, open_inputs};
 use crate::run::several::{Among, Several, Unlawful, read_several, replay_several, unlawful_among};
 use crate::run::viewing::{page_of, table_in, write_page, write_table};
@@ -152,7 +153,8 @@ fn show_opened<T: Workers, R: io::Read, W: io::Write>(
     }
 }
 
-/// Shows what the task asks for, of journals that are each replayed by itself in several threads at once.
+/// Shows what the task asks for, of journals that are each replayed by itself in several threads at once. The onlooker
+/// is shown the instruction.
 ///
 /// The instruction file is opened and then the journals in their order, before one of them is read; one that can't be
 /// opened is `Read` with its number. All are read before one is replayed, and the first that is refused, or else the
@@ -160,10 +162,11 @@ fn show_opened<T: Workers, R: io::Read, W: io::Write>(
 /// is written before it are those of [`run_view`](crate::run_view) and [`run_table`](crate::run_table). `Full` if
 /// the journals have more than 1,000,000 postings together. The instruction is read, and refused, by its own numbers;
 /// then those of the task take their place.
-pub fn serve_view<T: Threads + Sync, O: Open, W: io::Write>(
+pub fn serve_view<T: Threads + Sync, L: Onlooker, O: Open, W: io::Write>(
     rt: &T,
     alloc: Global,
     task: &ViewTask<'_>,
+    onlooker: &L,
     opener: &mut O,
     writer: &mut W,
 ) -> Result<(), EngineFault>
@@ -173,7 +176,7 @@ pub fn serve_view<T: Threads + Sync, O: Open, W: io::Write>(
     let journals = task.journals.as_slice();
     let (mut instruction, mut files) = open_inputs(alloc, opener, task.apt, journals)?;
     show_opened(
-        &SeveralThreads::of(rt, task.threads),
+        &SeveralThreads::of(rt, task.threads, onlooker),
         alloc,
         task,
         &mut instruction,

@@ -1,17 +1,20 @@
 //! Who does a run's work: one thread, or several at once.
 ghost use Rattle.std.specs.Prelude.{◌≢◌, ◌<◌, ◌≤◌, length, OnOk, IfOk, IfErr};
 ghost use Rattle.std.specs.Thread.{IsSync};
-ghost use Rattle.buck_record.specs.Reading.{Gives};
+ghost use Rattle.buck_record.specs.Reading.{Gives, listed};
+ghost use Rattle.buck_stem.specs.file.Stm.{stm_of};
 ghost use Rattle.buck_book.specs.History.{IsLawful};
 ghost use Rattle.buck_book.specs.declared.posting.TheConstants.{MOST_POSTINGS};
 ghost use Rattle.buck_journal.specs.judging.Replay.{history_of, IsFirstFault};
 ghost use Rattle.buck_journal.specs.reading.Journal.{journal_of};
 
+use crate::run::onlooker::Onlooker;
 use buck_apt::Instruction;
 use buck_journal::{
     Journal, JournalFault, ReplayFault, read_journal, read_journal_in_parts, replay,
     replay_in_parts,
 };
+use buck_stem::{Stem, StmFault, read_stm, read_stm_in_parts};
 use std::alloc::Global;
 use std::marker::Sync;
 use std::sync::Arc;
@@ -38,10 +41,19 @@ pub fn number_of_threads<T: Threads>(rt: &T, told: Option<u8>) -> usize
     wanted.max(1).min(MOST)
 }
 
-/// Those who read the journals of a run, and replay them. What comes of it doesn't depend on who they are.
+/// Those who read the stems and the journals of a run, and replay these. What comes of it doesn't depend on who they
+/// are.
 pub trait Workers {
     /// That what starts their threads may be shared among these.
     ghost can_share: { Type 0 };
+
+    /// The instruction of the files is read; whoever looks on at their work is shown it.
+    fn show(&self, _instruction: &Instruction) {}
+
+    /// The stems of some bytes, or why there are none, as [`read_stm`] says.
+    fn read_stm(&self, alloc: Global, bytes: &[u8]) -> Result<Vec<Stem>, StmFault>
+        requires share { can_share }
+        ensures { Gives StmFault.Memory (listed result) (stm_of bytes.now) };
 
     /// The journal of some bytes, or why there is none, as [`read_journal`] says.
     fn read_journal(&self, alloc: Global, bytes: &[u8]) -> Result<Journal, JournalFault>
@@ -70,6 +82,10 @@ pub struct OneThread;
 impl Workers for OneThread {
     ghost can_share = { Unit {0} };
 
+    fn read_stm(&self, alloc: Global, bytes: &[u8]) -> Result<Vec<Stem>, StmFault> {
+        read_stm(alloc, bytes)
+    }
+
     fn read_journal(&self, alloc: Global, bytes: &[u8]) -> Result<Journal, JournalFault> {
         read_journal(alloc, bytes)
     }
@@ -84,26 +100,36 @@ impl Workers for OneThread {
     }
 }
 
-/// Several threads at once.
+/// Several threads at once, and who looks on at a run.
 #[derive(Drop)]
-pub struct SeveralThreads<'a, T> {
-    rt: &'a T,
-    number: usize,
+pub struct SeveralThreads<'a, T, L> {
+    pub(crate) rt: &'a T,
+    pub(crate) number: usize,
+    pub(crate) onlooker: &'a L,
     ghost some: { 0 < number },
 }
 
-impl<'a, T: Threads> SeveralThreads<'a, T> {
+impl<'a, T: Threads, L> SeveralThreads<'a, T, L> {
     /// Takes as many threads as are asked for, from 1 to 64, or as many as the machine has, if no number is given.
-    pub fn of(rt: &'a T, told: Option<u8>) -> SeveralThreads<'a, T> {
+    pub fn of(rt: &'a T, told: Option<u8>, onlooker: &'a L) -> SeveralThreads<'a, T, L> {
         SeveralThreads {
             rt,
             number: number_of_threads(rt, told),
+            onlooker,
         }
     }
 }
 
-impl<T: Threads + Sync> Workers for SeveralThreads<'_, T> {
+impl<T: Threads + Sync, L: Onlooker> Workers for SeveralThreads<'_, T, L> {
     ghost can_share = { IsSync T.row };
+
+    fn show(&self, instruction: &Instruction) {
+        self.onlooker.read::<Stem>(instruction, &[]);
+    }
+
+    fn read_stm(&self, alloc: Global, bytes: &[u8]) -> Result<Vec<Stem>, StmFault> {
+        read_stm_in_parts(self.rt, alloc, bytes, self.number)
+    }
 
     fn read_journal(&self, alloc: Global, bytes: &[u8]) -> Result<Journal, JournalFault> {
         read_journal_in_parts(self.rt, alloc, bytes, self.number)

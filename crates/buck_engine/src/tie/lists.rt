@@ -6,16 +6,19 @@ ghost use Rattle.buck_engine.specs.inner.Tie.{AreStemsOf, stems_in_lists};
 
 use crate::fault::EngineFault;
 use crate::run::reading::read_stems;
+use crate::run::workers::Workers;
 use buck_stem::Stem;
 use std::alloc::Global;
 use std::io;
 
 /// The stems of all stem files, file by file: each is read, and refused if it must be, before the next. The first is
 /// file 2.
-pub(crate) fn read_files<R: io::Read>(
+pub(crate) fn read_files<T: Workers, R: io::Read>(
+    workers: &T,
     alloc: Global,
     stms: &mut [R],
 ) -> Result<Vec<Vec<Stem>>, EngineFault>
+    requires share { T.can_share }
     requires few { length stms.old ≤ 64 }
     ensures number { IfOk result (λ files. length files.items ≡ length stms.old) }
     ensures files { IfOk result (λ files.
@@ -25,7 +28,7 @@ pub(crate) fn read_files<R: io::Read>(
 {
     let mut files = Vec::new(alloc);
     for k in 0..stms.len() {
-        match read_stems(alloc, &mut stms[k], k as u32 + 2) {
+        match read_stems(workers, alloc, &mut stms[k], k as u32 + 2) {
             Ok(stems) => files.push(stems)?,
             Err(fault) => return Err(fault),
         }

@@ -140,8 +140,9 @@ fn read_tied<T: Workers, R: io::Read>(
 {
     check_files(stms.len())?;
     let instruction = Arc::new(alloc, read_instruction_with(alloc, apt, settings)?)?;
+    workers.show(&instruction);
     let journal = read_postings(workers, alloc, journal)?;
-    let files = read_files(alloc, stms)?;
+    let files = read_files(workers, alloc, stms)?;
     let both = Both {
         instruction,
         journal,

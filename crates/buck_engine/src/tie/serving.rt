@@ -3,6 +3,7 @@ ghost use Rattle.buck_engine.specs.run.Reading.{apt_with};
 ghost use Rattle.buck_engine.specs.tie.Serving.{ChecksFiles, RunsCheck};
 
 use crate::fault::EngineFault;
+use crate::run::onlooker::Onlooker;
 use crate::run::opening::{Open, open_inputs};
 use crate::run::workers::{SeveralThreads, Workers};
 use crate::tie::running::{CrossCheck, run_check_with};
@@ -43,15 +44,16 @@ fn check_opened<T: Workers, R: io::Read, W: io::Write>(
     }
 }
 
-/// Checks the journal of a task in several threads at once.
+/// Checks the journal of a task in several threads at once. The onlooker is shown the instruction.
 ///
 /// The files are opened in the order of the words before one of them is read; one that can't be opened is `Read` with
 /// its number. Each fault and what is written before it are those of [`run_check_with`](crate::run_check_with),
 /// whatever the number of threads. A task without a journal is `Read` with the number of that file.
-pub fn serve_check<T: Threads + Sync, O: Open, W: io::Write>(
+pub fn serve_check<T: Threads + Sync, L: Onlooker, O: Open, W: io::Write>(
     rt: &T,
     alloc: Global,
     task: &CheckTask<'_>,
+    onlooker: &L,
     opener: &mut O,
     writer: &mut W,
 ) -> Result<(), EngineFault>
@@ -60,7 +62,7 @@ pub fn serve_check<T: Threads + Sync, O: Open, W: io::Write>(
 {
     let (mut instruction, mut files) = open_inputs(alloc, opener, task.apt, task.files.as_slice())?;
     check_opened(
-        &SeveralThreads::of(rt, task.threads),
+        &SeveralThreads::of(rt, task.threads, onlooker),
         alloc,
         &task.by,
         &mut instruction,

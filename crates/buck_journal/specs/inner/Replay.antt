@@ -1,4 +1,4 @@
--- What holds while a journal is replayed: where a posting was passed, and which cuts are outvalued before a place.
+-- What holds while a journal is replayed: of a posting that was passed, and which cuts are outvalued before a place.
 use Rattle.std.specs.Prelude.{◌≡◌, ℕ, ◌<◌, ◌≤◌, Bool, true, false, List, take, slice_get, Option, Some, None}
 use Rattle.buck_value.specs.declared.log.Log.{Log}
 use Rattle.buck_value.specs.Sheet.{SheetParts}

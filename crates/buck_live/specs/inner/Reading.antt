@@ -1,9 +1,7 @@
 -- A line that is read, byte by byte.
-use Rattle.std.specs.Prelude.{◌≡◌, ℕ, false, ◌+◌, ◌++◌, List, [], ◌∷◌, All, take, Option, Some, None, IfSome}
+use Rattle.std.specs.Prelude.{◌≡◌, ℕ, Bool, true, false, ◌+◌, ◌++◌, List, [], ◌∷◌, All, take, Option, Some, None, IfSome}
 use Rattle.std.specs.Io.KnownBytes.{Consumes, IsAtEnd}
 use Rattle.buck_live.specs.Lines.{ended_line, is_feed, last_line, longest_line, lines_of}
-use Rattle.buck_live.specs.declared.lines.End.{End}
-use Rattle.buck_live.specs.declared.lines.End.TheVariants.{Feed, Input}
 
 -- the next byte of an input was read, or there is none
 abbrev pub ReadsByte : Option (List ℕ) → Option (List ℕ) → Option ℕ → Type 0
@@ -25,12 +23,12 @@ HasLines input lines = IfSome input (λ bytes. lines_of bytes ≡ lines)
 abbrev pub AreTaken : Option (List ℕ) → List (Option (List ℕ)) → Option (List ℕ) → Type 0
 AreTaken input lines left = (more : List (Option (List ℕ))) → HasLines left more → HasLines input (lines ++ more)
 
--- the line that is held, by what ended it
-abbrev pub held_line : End → List ℕ → Option (List ℕ)
-held_line Feed held = ended_line held
-held_line Input held = last_line held
+-- the line that is held, and a line feed ended it, or the input
+abbrev pub held_line : Bool → List ℕ → Option (List ℕ)
+held_line true held = ended_line held
+held_line false held = last_line held
 
 -- the next line was read
-abbrev pub IsRead : Option (List ℕ) → Option (List ℕ) → Option (List ℕ) → End → Type 0
-IsRead old new line Feed = AreTaken old (line ∷ []) new
-IsRead old new line Input = HasLines old (line ∷ [])
+abbrev pub IsRead : Option (List ℕ) → Option (List ℕ) → Option (List ℕ) → Bool → Type 0
+IsRead old new line true = AreTaken old (line ∷ []) new
+IsRead old new line false = HasLines old (line ∷ [])

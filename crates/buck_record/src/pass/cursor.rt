@@ -1,11 +1,14 @@
 //! Items, one after the other, with no list of them.
-ghost use Rattle.std.specs.Prelude.{◌≡◌, ◌<◌, [], ◌∷◌, length, position, IfSome, IfNone, IsTrue, Some};
+ghost use Rattle.std.specs.Prelude.{◌≡◌, ◌<◌, [], ◌∷◌, List, length, position, IfSome, IfNone, IsTrue};
 ghost use Rattle.std.specs.List.{before_first, after_first};
-ghost use Rattle.buck_record.specs.bytes.Record.{is_tilde, item_of, pieces};
-ghost use Rattle.buck_record.specs.pass.Cursor.{HasItems, Leads, item_in};
+ghost use Rattle.buck_record.specs.Item.{ItemParts};
+ghost use Rattle.buck_record.specs.bytes.Record.{is_tilde, pieces};
+ghost use Rattle.buck_record.specs.pass.Cursor.{HasItems, HasItemsIn, Leads, item_in};
 
 use crate::bytes::reading::read_piece;
 use crate::bytes::white::trim;
+use crate::checking::table::is_in;
+use crate::item::Piece;
 use crate::slot::Slot;
 use bstr::ByteSlice;
 
@@ -44,11 +47,26 @@ pub(crate) fn cut_piece(text: &[u8]) -> Option<(&[u8], &[u8])>
     None
 }
 
-/// The rest of a piece whose head stands in this slot.
-fn rest_in(slot: Slot, piece: &[u8]) -> Option<&[u8]>
-    ensures { IfSome result (λ rest. item_of piece.now ≡ Some (item_in slot rest.now)) }
+/// The item that a text begins with, and what is left after it. `None` if there is none, or a piece with no head.
+fn next_item(text: &[u8]) -> Option<(Piece<'_>, &[u8])>
+    ensures { IfSome result (λ w. Leads text.now w.0 w.1.now) }
 {
+    let Some((piece, left)) = cut_piece(text) else {
+        return None;
+    };
     let Some(item) = read_piece(piece) else {
+        return None;
+    };
+    Some((item, left))
+}
+
+/// The rest of the item that a text begins with, if that item stands in this slot, and what is left of the text
+/// after the tilde that ends it: whatever is left, the text is read as this item and then that. `None` if there is
+/// no item, or another.
+pub fn next_in(slot: Slot, text: &[u8]) -> Option<(&[u8], &[u8])>
+    ensures { IfSome result (λ w. Leads text.now (item_in slot w.0.now) w.1.now) }
+{
+    let Some((item, left)) = next_item(text) else {
         return None;
     };
     if item.number != slot.number {
@@ -57,30 +75,26 @@ fn rest_in(slot: Slot, piece: &[u8]) -> Option<&[u8]>
     if item.kind != slot.kind {
         return None;
     }
-    Some(item.rest)
+    Some((item.rest, left))
 }
 
-/// The rest of the item that a text begins with, if that item stands in this slot, and what is left of the text
-/// after the tilde that ends it: whatever is left, the text is read as this item and then that. `None` if there is
-/// no item, or another, or an empty piece before it.
-pub fn next_in(slot: Slot, text: &[u8]) -> Option<(&[u8], &[u8])>
-    ensures { IfSome result (λ w. Leads text.now (item_in slot w.0.now) w.1.now) }
+/// What is left of a text after the items that it begins with and that stand in none of the slots.
+pub fn past_others<'a>(slots: &[Slot], text: &'a [u8]) -> &'a [u8]
+    ensures { (items : List ItemParts) → HasItemsIn slots.now result.now items → HasItemsIn slots.now text.now items }
 {
-    let (part, left) = cut_part(text);
-    let piece = trim(part);
-    if piece.is_empty() {
-        return None;
+    let mut rest = text;
+    while let Some((item, left)) = next_item(rest) {
+        if is_in(&item, slots) {
+            return rest;
+        }
+        rest = left;
     }
-    let Some(rest) = rest_in(slot, piece) else {
-        return None;
-    };
-    Some((rest, left))
+    rest
 }
 
-/// Whether a text is seen at once to have no item: it has whitespace, and at most one tilde at its end.
+/// Whether a text has no item: nothing but whitespace and tildes.
 pub fn is_done(text: &[u8]) -> bool
     ensures { IsTrue result → HasItems text.now [] }
 {
-    let (part, left) = cut_part(text);
-    left.is_empty() && trim(part).is_empty()
+    cut_piece(text).is_none()
 }

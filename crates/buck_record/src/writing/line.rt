@@ -19,6 +19,20 @@ fn put_one(out: &mut Vec<u8>, number: u32) -> Result<(), Memory>
     Ok(())
 }
 
+/// Puts a number of two digits, after a space: diameters in mm near a top have two.
+#[tactic(auto, using(crate::proofs::Three::decimal_of_two))]
+#[inline(always)]
+fn put_two(out: &mut Vec<u8>, number: u32) -> Result<(), Memory>
+    requires { (10 ≤ number) × (number < 100) }
+    ensures put { OnOk result (out.new.items ≡ out.old.items ++ (32 ∷ decimal number)) }
+    ensures kept { OnErr result (out.new.items ≡ out.old.items) }
+{
+    let tens = b'0' + (number / 10) as u8;
+    let ones = b'0' + (number % 10) as u8;
+    out.extend_from_slice(&[b' ', tens, ones])?;
+    Ok(())
+}
+
 /// Puts a number of three digits, after a space: most diameters in mm have three.
 #[tactic(auto, using(crate::proofs::Three::decimal_of_three))]
 #[inline(always)]
@@ -75,13 +89,13 @@ fn put_small(out: &mut Vec<u8>, number: u32) -> Result<(), Memory>
     ensures put { OnOk result (out.new.items ≡ out.old.items ++ (32 ∷ decimal number)) }
     ensures kept { OnErr result (out.new.items ≡ out.old.items) }
 {
-    // Nearly all numbers have one, three or four digits, and these are written without a loop: to use the library's
-    // `itoa` for all costs several per cent of `buck`.
+    // Nearly all numbers have at most four digits, and these are written without a loop: to use the library's `itoa`
+    // for all costs several per cent of `buck`.
     if number < 10 {
         return put_one(out, number);
     }
     if number < 100 {
-        return put_after(out, b' ', u128::from(number));
+        return put_two(out, number);
     }
     if number < 1000 {
         return put_three(out, number);

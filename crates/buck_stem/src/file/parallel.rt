@@ -72,9 +72,9 @@ fn read_plain_in_parts<T: Threads + Sync>(
     Ok(stems_in_parts(rt, alloc, body, threads)?)
 }
 
-/// [`read_stm`](crate::read_stm) in at most so many threads at once, if the file's items stand in the order of the
-/// table and it isn't short: each takes a part that begins with a stem. The answer is that of
-/// [`read_stm`](crate::read_stm), whatever the number, or `Memory` if an allocation failed.
+/// [`read_stm`](crate::read_stm) in at most so many threads at once, if the file is one that is read in one pass and
+/// isn't short: each takes a part that begins with a stem. The answer is that of [`read_stm`](crate::read_stm),
+/// whatever the number, or `Memory` if an allocation failed.
 pub fn read_stm_in_parts<T: Threads + Sync>(
     rt: &T,
     alloc: Global,

@@ -1,27 +1,43 @@
 //! Files in the plain order, in one pass: the kind of file, and then the number, the species, the diameters and perhaps
-//! the zones of each stem. No list is made for an item: its numbers are read into lists that are kept from stem to stem.
+//! the zones of each stem. Items of no slot of the table are passed over. No list is made for an item: its numbers are
+//! read into lists that are kept from stem to stem.
 //!
 //! If a text isn't read, the fault says only whether an allocation failed.
-ghost use Rattle.std.specs.Prelude.{◌≡◌, IfOk, Ok};
-ghost use Rattle.buck_stem.specs.file.Stm.{stm_of};
-ghost use Rattle.buck_stem.specs.inner.Plain.{LeadsNumbers, LeadsZones, LeadsDraft, LeadsStem, HasStems, IsBodyOf};
+ghost use Rattle.std.specs.Prelude.{◌≡◌, [], IfOk, IfSome, Ok, true};
+ghost use Rattle.buck_record.specs.pass.Cursor.{item_in};
+ghost use Rattle.buck_record.specs.checking.Table.{is_in};
+ghost use Rattle.buck_stem.specs.file.Stm.{table, stm_of};
+ghost use Rattle.buck_stem.specs.inner.Plain.{LeadsItem, LeadsNumbers, LeadsZones, LeadsDraft, LeadsStem, HasStems, IsBodyOf};
 
 use crate::file::draft::Draft;
 use crate::file::fault::StmFault;
 use crate::file::lines::ready;
 use crate::file::reading::stem_from;
-use crate::file::slots::{SAMPLES, SPECIES, STEM, ZONES};
+use crate::file::slots::{SAMPLES, SPECIES, STEM, TABLE, ZONES};
 use crate::stem::Stem;
 use buck_record::rules::FILE;
-use buck_record::{Listed, Slot, is_done, next_in, numbers_into};
+use buck_record::{Listed, Slot, is_done, next_in, numbers_into, past_others};
 use std::alloc::Global;
 
-/// Reads the numbers of the item that a text begins with, if that stands in this slot, into `room`; and what is left
-/// after it.
+/// The rest of the first item of the table that a text has, if that stands in this slot, and what is left after it.
+fn next_kept(slot: Slot, text: &[u8]) -> Option<(&[u8], &[u8])>
+    requires { is_in table (item_in slot []) ≡ true }
+    ensures { IfSome result (λ w. LeadsItem text.now (item_in slot w.0.now) w.1.now) }
+{
+    // Mostly it stands at the front: then one head is read.
+    match next_in(slot, text) {
+        Some(found) => Some(found),
+        None => next_in(slot, past_others(&TABLE, text)),
+    }
+}
+
+/// Reads the numbers of the first item of the table that a text has, if that stands in this slot, into `room`; and what
+/// is left after it.
 fn next_numbers<'a>(room: &mut Vec<u32>, slot: Slot, text: &'a [u8]) -> Result<&'a [u8], StmFault>
+    requires { is_in table (item_in slot []) ≡ true }
     ensures { IfOk result (λ left. LeadsNumbers slot text.now room.new.items left.now) }
 {
-    let Some((rest, left)) = next_in(slot, text) else {
+    let Some((rest, left)) = next_kept(slot, text) else {
         return Err(StmFault::NotStm);
     };
     if !numbers_into(rest, room)? {
@@ -30,11 +46,11 @@ fn next_numbers<'a>(room: &mut Vec<u32>, slot: Slot, text: &'a [u8]) -> Result<&
     Ok(left)
 }
 
-/// The same of the zones' numbers: none, and the whole text is left, if the text begins with no item of zones.
+/// The same of the zones' numbers: none, and the whole text is left, if that is no item of zones.
 fn next_zones<'a>(room: &mut Vec<u32>, text: &'a [u8]) -> Result<&'a [u8], StmFault>
     ensures { IfOk result (λ left. LeadsZones text.now room.new.items left.now) }
 {
-    let Some((rest, left)) = next_in(ZONES, text) else {
+    let Some((rest, left)) = next_kept(ZONES, text) else {
         room.clear();
         return Ok(text);
     };
@@ -88,13 +104,16 @@ pub(crate) fn stems_of(alloc: Global, body: &[u8]) -> Result<Vec<Stem>, StmFault
     let mut rest = body;
     // Each stem takes bytes off the text, so there is a turn for each.
     for _ in 0..body.len() {
-        if is_done(rest) {
-            return Ok(stems);
+        match next_stem(alloc, draft, rest) {
+            Ok((stem, read, left)) => {
+                stems.push(stem)?;
+                draft = read;
+                rest = left;
+            }
+            // If no stem follows, nothing of the table may.
+            Err(_) if is_done(past_others(&TABLE, rest)) => return Ok(stems),
+            Err(fault) => return Err(fault),
         }
-        let (stem, read, left) = next_stem(alloc, draft, rest)?;
-        stems.push(stem)?;
-        draft = read;
-        rest = left;
     }
     Err(StmFault::NotStm)
 }
@@ -103,7 +122,7 @@ pub(crate) fn stems_of(alloc: Global, body: &[u8]) -> Result<Vec<Stem>, StmFault
 pub(crate) fn body_of(bytes: &[u8]) -> Result<&[u8], StmFault>
     ensures { IfOk result (λ body. IsBodyOf bytes.now body.now) }
 {
-    let Some((kind, body)) = next_in(FILE, bytes) else {
+    let Some((kind, body)) = next_kept(FILE, bytes) else {
         return Err(StmFault::NotStm);
     };
     if kind != b"STM".as_slice() {

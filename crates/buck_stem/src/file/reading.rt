@@ -101,8 +101,8 @@ pub(crate) fn read_by_lines(alloc: Global, bytes: &[u8]) -> Result<Vec<Stem>, St
 /// `Memory` if an allocation failed. Items that aren't in the table are skipped and take no memory; each must have a
 /// number and a kind.
 ///
-/// A file whose items stand in the order of the table, stem by stem, is read in one pass over its bytes; any other is
-/// read line by line.
+/// A file whose items of the table stand in its order, stem by stem, is read in one pass over its bytes, whatever other
+/// items stand between them; any other file is read line by line.
 pub fn read_stm(alloc: Global, bytes: &[u8]) -> Result<Vec<Stem>, StmFault>
     ensures { Gives Memory (listed result) (stm_of bytes.now) }
 {

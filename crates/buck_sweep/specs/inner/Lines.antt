@@ -49,15 +49,10 @@ abbrev pub IsPart : InstructionParts → List StemList → List Combination
 IsPart i lists cs (Ok text) = AreLines (IsRunLine i lists) cs text.items
 IsPart i lists cs (Err fault) = IsStop lists fault
 
--- the names of the columns, and the lines of combinations whose runs cut these lists by this instruction
-pub record IsTableOf (i : InstructionParts) (lists : List StemList) (cs : List Combination)
-    (text : List ℕ) : Type 0 where
-  pub lines : List ℕ
-  pub are_lines : AreLines (IsRunLine i lists) cs lines
-  pub text_is : text ≡ head_line i ++ lines
-
--- their table, or why there is none
+-- the names of the columns, and the lines of combinations whose runs cut these lists by this instruction; or why there
+-- are none
 abbrev pub AnswersTable : InstructionParts → List StemList → List Combination
     → Result (List ℕ) EngineFault → Type 0
-AnswersTable i lists cs (Ok text) = IsTableOf i lists cs text
+AnswersTable i lists cs (Ok text) =
+    (lines : List ℕ) × AreLines (IsRunLine i lists) cs lines × (text ≡ head_line i ++ lines)
 AnswersTable i lists cs (Err fault) = IsStop lists fault

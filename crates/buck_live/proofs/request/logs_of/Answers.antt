@@ -1,6 +1,6 @@
 use Rattle.buck_live.proofs.Words.{◌≡◌, ◌*◌, ◌+◌, arith, next_log}
 use Rattle.std.proofs.lemmas.Grind.{common_steps}
-use Rattle.buck_live.proofs.OwnLemmas.{all_taken, low_at}
+use Rattle.buck_live.proofs.OwnLemmas.{low_at}
 use Rattle.buck_live.proofs.request.logs_of.Goals as goal
 
 pub overflow_cast-numbers : goal.overflow_cast-numbers
@@ -13,7 +13,3 @@ loop-k-preserved c =
     let step = next_log c.args.numbers.now (3 * c.loop-k.k) (omega arith) in
     let low = low_at c.args.numbers.now (3 * c.loop-k.k) (omega arith) c.loop-k.invariant.low in
     rw next (grind (arith, common_steps, step, low))
-
-pub returns : goal.returns
-returns c =
-    all_taken c.loop-k.logs.items _ c.args.numbers.now (3 * c.loop-k.k) (omega arith) c.loop-k.invariant.so_far

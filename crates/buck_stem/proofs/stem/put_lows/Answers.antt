@@ -1,4 +1,4 @@
-use Rattle.std.proofs.Common.{◌≡◌, ◌∙◌, ◌-◌, ℕ, List, ap, arith}
+use Rattle.std.proofs.Common.{◌≡◌, ◌∙◌, ℕ, List, ap, arith}
 use Rattle.std.proofs.lemmas.List.{length-set}
 use Rattle.buck_stem.specs.Stem.{least_to}
 use Rattle.buck_stem.proofs.Lows.{lower, least_put}

@@ -1,10 +1,14 @@
-use Rattle.std.proofs.Common.{◌≡◌}
-use Rattle.buck_turn.specs.inner.Rounds.{IsAt}
+use Rattle.buck_turn.proofs.Rounds.{HasCutRounds, IsOpened}
 use Rattle.buck_turn.proofs.turns.cut_in_turn.Given as goal
 
 abbrev pub invariant-loop-round : goal.invariant-loop-round
 invariant-loop-round g l = record {
-  rule : l.cutter.rule ≡ l.fn.rule;
-  instruction : l.cutter.history.instruction ≡ l.fn.instruction.value;
-  at : IsAt g.F.Fn l.lists l.round 0 l.cutter;
+  book : IsOpened g.F.Fn l.fn.rule l.fn.instruction.value l.cutter;
+  cut : HasCutRounds l.round 0 l.lists l.cutter.history.postings;
+}
+
+abbrev pub invariant-loop-place : goal.invariant-loop-place
+invariant-loop-place g l = record {
+  book : IsOpened g.F.Fn l.fn.rule l.fn.instruction.value l.cutter;
+  cut : HasCutRounds l.round l.place l.lists l.cutter.history.postings;
 }

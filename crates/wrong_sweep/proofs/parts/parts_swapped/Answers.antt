@@ -7,4 +7,4 @@ pub prove-unreachable-requires : goal.prove-unreachable-requires
 prove-unreachable-requires g c =
     let same : c.run_sweep_in_parts-outcome.new.out.items ≡ c.args.wrong.now = search rules in
     without_lines Steady Step _ _ _ _ _ _ _ _ c.run_sweep_in_parts-outcome.ensures.run c.new-right.ensures.items
-    c.in-Ok.is c.requires.other same (search rules)
+    c.in-Ok.is c.requires.other same c.requires.runs

@@ -1,18 +1,27 @@
-use Rattle.std.proofs.Common.{rules, sym}
+use Rattle.std.proofs.Common.{rules, sym, refl}
+use Rattle.std.proofs.lemmas.Option.{IfSome_then}
 use Rattle.buck_book.specs.declared.posting.Posting.TheVariants.{Cut}
-use Rattle.buck_cutter.proofs.Adding.{has_cut, still_by_rule}
+use Rattle.buck_cutter.proofs.Adding.{added, still_by_rule}
 use Rattle.buck_cutter.proofs.cutter.Cutter.commit.Goals as goal
 
 pub returns-clause-cut : goal.returns-clause-cut
 returns-clause-cut g c =
-    let ready = c.in_ok-ready.ensures in
-    let same = ready.content.history in
-    rw (sym c.self.view_is)
-    (has_cut g.F.Fn c.self.inside.book.rule c.self.inside.book.history c.commit.new.self.history c.args.harvester
-    c.args.plan c.in_ok-ready.ready.next c.commit.result c.requires.harvester c.worth-best.ensures.best
-    (rw (sym c.self.view_is) at c.requires.in_force) (rw same at ready.ready.to_add.next_is c.args.harvester)
-    ready.given (rw same at c.commit.ensures.entry) (rw same at c.commit.ensures.instruction)
-    (rw same at c.commit.ensures.sheets) (rw same at c.commit.ensures.postings))
+    let ready = c.in_ok-ready.ready in
+    let same = c.in_ok-ready.ensures.content.history in
+    let done = c.commit.ensures in
+    let entry = (rw same at done.entry) in
+    rw (sym c.self.view_is) (record {
+      who = c.requires.harvester;
+      plan = c.args.plan;
+      is_plan = c.worth-best.ensures.best;
+      same_stem = refl;
+      sheet_in_force = rw (sym c.self.view_is) at c.requires.in_force;
+      entry_is = entry;
+      added = added _ _ _ _ _ ready.next (cc entry)
+          (rw same at c.in_ok-ready.ensures.ready.to_add.next_is c.args.harvester)
+          (IfSome_then ready.next c.in_ok-ready.ensures.given (λ s answers. answers c.args.harvester))
+          (rw same at done.instruction) (rw same at done.sheets) (rw same at done.postings);
+    })
 
 pub returns-clause-given : goal.returns-clause-given
 returns-clause-given g c =

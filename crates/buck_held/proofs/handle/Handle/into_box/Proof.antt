@@ -1,9 +1,9 @@
 -- `into_box` hands its pointer to `from_raw`, with the book that is owned there.
-use Rattle.buck_held.proofs.Walks.{tables_of, Lasts, lasts, [], ◌∷◌, refl, sym, ap, ◌∙◌, ◌≡◌, Option, Some, IsSome, proved, id⊢, ftrue, fact, heap_val, heap_Tells, ‵, raw, ◌⊛◌, some, later, at_ret, ◌$◌, ◌∵◌, !, qed, done, move, drop, use1}
-use Rattle.buck_held.proofs.Walks.{split, split3, join, fsplit, feq_i, pick, await, rewrite, suffices, nothing, heard, peeks, shows, all_Typed, yes, plain, tables, framed, enter, of_opd, stop, fld, no_more, and_then, sub, whole, first}
-use Rattle.buck_held.proofs.Walks.{blocks, exec, returns, alloc_all, pass_all, free_all, look_at, get, get_in, sets, lands_last, env, full_share, calls_at_last, Stays, walk_of, says, stay_dropped, Goes-dropped, ends_at, the_value}
-use Rattle.buck_held.proofs.Walks.{rawptr_vals, rawptr_Lawful, Handle, handle_Lawful, handle_vals, handle_Tells}
-use Rattle.buck_held.proofs.Boxes.{passed, ghosts, dict, KeptBook, Heap, Boxed, KeptArg, HeapArg, heap_Laws, boxed_Laws, kept_arg_Laws, heap_arg_Laws, heap_drop, heap_drop_met, FromRaw, from_raw_ended, tokens, hands}
+use Rattle.buck_held.proofs.Handles.{tables_of, Lasts, lasts, [], ◌∷◌, refl, sym, ap, ◌∙◌, ◌≡◌, Option, Some, IsSome, proved, id⊢, ftrue, fact, heap_val, heap_Tells, ‵, raw, ◌⊛◌, some, later, at_ret, ◌$◌, ◌∵◌, !, qed, done, move, drop}
+use Rattle.buck_held.proofs.Handles.{use1, split, split3, join, fsplit, feq_i, pick, await, rewrite, suffices, nothing, heard, peeks, shows, all_Typed, yes, plain, tables, framed, enter, of_opd, stop, fld, no_more, and_then, sub, whole}
+use Rattle.buck_held.proofs.Handles.{first, blocks, exec, returns, alloc_all, pass_all, free_all, look_at, get, get_in, sets, lands_last, env, full_share, calls_at_last, Stays, walk_of, says, stay_dropped, Goes-dropped, ends_at}
+use Rattle.buck_held.proofs.Handles.{the_value, rawptr_vals, rawptr_Lawful, Handle, handle_Lawful, handle_vals, handle_Tells, passed, ghosts, dict, KeptBook, Heap, Boxed, KeptArg, HeapArg, heap_Laws, boxed_Laws, kept_arg_Laws}
+use Rattle.buck_held.proofs.Handles.{heap_arg_Laws, heap_drop, heap_drop_met, FromRaw, from_raw_ended, tokens, hands}
 use Rattle.std.proofs.boxed.Box.from_raw.Met.{met}
 use Rattle.buck_held.specs.Block.{where_some, boxed_at}
 use Rattle.buck_held.specs.contracts.handle.Handle.into_box as f

@@ -1,6 +1,6 @@
 -- `none` has no pointer, and owns nothing.
-use Rattle.buck_held.proofs.Walks.{[], ◌∷◌, refl, lit<, None, proved, ftrue, null_ptr, ‵, raw, ◌$◌, ◌∵◌, !, qed, done, drop, suffices, enter, lit, no_more, and_then, agg, returns, alloc_all, pass_all, free_all, look_at, sets, nothing}
-use Rattle.buck_held.proofs.Walks.{on_entry, walk_of, says, ends_at, Handle, handle_val, handle_in}
+use Rattle.buck_held.proofs.Handles.{[], ◌∷◌, refl, lit<, None, proved, ftrue, null_ptr, ‵, raw, ◌$◌, ◌∵◌, !, qed, done, drop, suffices, enter, lit, no_more, and_then, agg, returns, alloc_all, pass_all, free_all, look_at, sets, nothing}
+use Rattle.buck_held.proofs.Handles.{on_entry, walk_of, says, ends_at, Handle, handle_val, handle_in}
 use Rattle.buck_held.specs.contracts.handle.Handle.none as f
 use Rattle.buck_held.proofs.handle.Handle.none.Statement.{statement}
 use Rattle.buck_held.proofs.handle.Handle.none.Code as code

@@ -1,8 +1,8 @@
 -- `of` keeps the pointer that `into_raw` gives, with the book that is owned there.
-use Rattle.buck_held.proofs.Walks.{tables_of, Lasts, lasts, List, [], ◌∷◌, ◌++◌, refl, ap, Some, proved_at, id⊢, ftrue, Val, Ptr, RawPtr, layout, rawptr_Lawful, ‵, raw, ◌⊛◌, some, later, prop, ◌$◌, ◌∵◌, !, qed, done, drop, use1, split}
-use Rattle.buck_held.proofs.Walks.{join, feq_l, pick, await, rewrite, regoal, suffices, nothing, only, peeks, shows, yes, plain, tables, WpFn, framed, enter, of_opd, no_more, and_then, agg, returns, alloc_all, pass_all, free_all, look_at}
-use Rattle.buck_held.proofs.Walks.{get, sets, lands_as, full_share, calls_at, Stays, walk_of, says, stay_dropped, Goes-dropped, ends_at, one_of, Handle, handle_Lawful, handle_val, handle_vals, handle_in}
-use Rattle.buck_held.proofs.Boxes.{passed, ghosts, dict, Boxed, KeptArg, HeapArg, boxed_Laws, kept_arg_Laws, heap_arg_Laws, heap_drop, kept_drop, heap_drop_met, kept_drop_met, IntoRaw, into_raw_ended, tokens, hands}
+use Rattle.buck_held.proofs.Handles.{tables_of, Lasts, lasts, List, [], ◌∷◌, ◌++◌, refl, ap, Some, proved_at, id⊢, ftrue, Val, Ptr, RawPtr, layout, rawptr_Lawful, ‵, raw, ◌⊛◌, some, later, prop, ◌$◌, ◌∵◌, !, qed, done, drop, use1, split}
+use Rattle.buck_held.proofs.Handles.{join, feq_l, pick, await, rewrite, regoal, suffices, nothing, only, peeks, shows, yes, plain, tables, WpFn, framed, enter, of_opd, no_more, and_then, agg, returns, alloc_all, pass_all, free_all}
+use Rattle.buck_held.proofs.Handles.{look_at, get, sets, lands_as, full_share, calls_at, Stays, walk_of, says, stay_dropped, Goes-dropped, ends_at, one_of, Handle, handle_Lawful, handle_val, handle_vals, handle_in, passed, ghosts, dict}
+use Rattle.buck_held.proofs.Handles.{Boxed, KeptArg, HeapArg, boxed_Laws, kept_arg_Laws, heap_arg_Laws, heap_drop, kept_drop, heap_drop_met, kept_drop_met, IntoRaw, into_raw_ended, tokens, hands}
 use Rattle.std.proofs.boxed.Box.into_raw.Met.{met}
 use Rattle.buck_held.specs.Block.{boxed_at}
 use Rattle.buck_held.specs.contracts.handle.Handle.of as f

@@ -1,11 +1,11 @@
-use Rattle.std.proofs.Common.{◌<◌, length, arith}
-use Rattle.std.proofs.lemmas.Grind.{common_steps}
-use Rattle.buck_record.proofs.CursorLemmas.{is_cut, leads}
+use Rattle.std.proofs.Common.{ap₂, subst, sym, ◌∙◌}
+use Rattle.buck_record.specs.pass.Cursor.{Leads}
 use Rattle.buck_record.proofs.pass.cursor.next_in.Goals as goal
 
 pub returns : goal.returns
 returns c =
-    let some : 0 < length c.trim-piece.result.now =
-    grind (arith, common_steps, c.is_empty.ensures, c.if-is_empty.false) in
-    let cut = is_cut _ _ _ _ c.cut_part.ensures.part c.cut_part.ensures.left c.trim-piece.ensures in
-    leads _ _ _ _ cut some c.in-Some.ensures
+    let t = c.item.inside.rest.now in
+    subst (λ item. Leads c.args.text.now item c.in-Some.left.now)
+    (sym c.item.view_is
+    ∙ ap₂ (λ n k. record { number = n; kind = k; rest = t }) c.if-item-slot.false c.if-item-slot-2.false)
+    c.in-Some.ensures

@@ -1,5 +1,4 @@
 use Rattle.std.proofs.Common.{Some, rules}
-use Rattle.buck_record.proofs.CursorLemmas.{leads_on}
 use Rattle.buck_stem.proofs.JoinLemmas.{no_zones}
 use Rattle.buck_stem.proofs.file.plain.next_zones.Goals as goal
 
@@ -10,5 +9,5 @@ pub returns : goal.returns
 returns c = record {
   item = Some c.in-Some.rest.now;
   read = search rules;
-  next = leads_on c.in-Some.ensures;
+  next = c.in-Some.ensures;
 }

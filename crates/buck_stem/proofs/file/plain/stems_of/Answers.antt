@@ -1,3 +1,4 @@
+use Rattle.std.proofs.Common.{[], refl}
 use Rattle.buck_stem.proofs.JoinLemmas.{stems_start, stems_go_on, stems_end}
 use Rattle.buck_stem.proofs.file.plain.stems_of.Goals as goal
 
@@ -6,10 +7,10 @@ loop-init c = rw c.new-stems.ensures.items (stems_start c.args.body.now)
 
 pub loop-preserved : goal.loop-preserved
 loop-preserved c =
-    rw c.in_ok-push.ensures.items
-    (stems_go_on c.args.body.now c.loop.rest.now c.in_ok-stem.left.now c.loop.stems.items _ c.loop.invariant c.in_ok-stem.ensures)
+    rw c.in_ok-push-in-Ok.ensures.items
+    (stems_go_on c.args.body.now c.loop.rest.now c.in-Ok.left.now c.loop.stems.items _ c.loop.invariant c.in-Ok.ensures)
 
-pub returns-then-is_done : goal.returns-then-is_done
-returns-then-is_done c =
+pub returns-in-Err : goal.returns-in-Err
+returns-in-Err c =
     stems_end c.args.body.now c.loop.rest.now c.loop.stems.items c.loop.invariant
-    (c.is_done.ensures c.if-is_done.true)
+    (c.past_others.ensures [] ([], c.is_done.ensures c.if-is_done.true, refl))

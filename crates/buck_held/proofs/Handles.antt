@@ -1,32 +1,54 @@
--- A box of a kept book, and the calls that make it a pointer and back.
-use Rattle.std.proofs.Common.{List, [], ◌∷◌, refl}
+-- What the walks of a handle share: the names that they cite, a box of a kept book with the calls that make it a
+-- pointer and back, and a handle's machine value.
+pub use Rattle.std.proofs.Common.{◌≡◌, List, [], ◌∷◌, ◌++◌, refl, sym, ap, ◌∙◌, lit<, subst}
+pub use Rattle.std.proofs.Handle.{heap_val, heap_Tells}
+pub use Rattle.std.proofs.raw_atomic.Walks.{proved, proved_at}
+pub use Rattle.std.specs.Prelude.{Option, Some, None, IsSome}
+pub use base.Fraction.{full_share}
+pub use base.Logic.{id⊢, emp, emp∗, sep, ex}
+pub use base.Fml.{ftrue, flft, fsep}
+pub use mir.Val.{Val, has_ty, WT}
+pub use prog.Wp.{WpFn}
+pub use contract.Monad.{fact, fact_i}
+pub use contract.Running.{tables, Running}
+pub use types.ByLocal.{alloc_all, pass_all, free_all, look_at, get, get_in, sets, lands_last, lands_as, env}
+pub use types.Kit.{‵, raw, ◌⊛◌, some, later, prop, at_ret, ◌$◌, ◌∵◌, !, qed, done, move, drop, use0, use1, split, split3, join, fsplit, feq_i, feq_l, pick, await, rewrite, regoal, suffices, Item, Goal, Step, step, fjoin, keep, show}
+pub use types.Part.{agg, sub, whole}
+pub use types.Run.{enter, of_opd, lit, stop, fld, no_more, and_then, first, blocks, exec, returns}
+pub use denote.Exit.{yes, no}
+pub use denote.Laws.{Is, shows, all_Typed, Typed, Lawful}
+pub use denote.Param.{layout, arg}
+pub use denote.RawPtr.{Ptr, RawPtr, null_ptr, ptr_val, rawptr_vals, rawptr_Lawful, rawptr_pure}
+pub use denote.Signature.{plain}
+pub use denote.Steps.{nothing, owned, heard, only, peeks}
+pub use denote.Triple.Call.{calls_at, calls_at_last}
+pub use denote.Triple.Clauses.{Lasts, lasts, Ended}
+pub use denote.Triple.Entry.{on_entry}
+pub use denote.Triple.Table.{framed, widened, run_framed}
+pub use denote.Triple.Walked.{Stays, walk_of, says, stay_dropped, Goes-dropped, ends_at}
+use lib.Dec.{T}
+use seplogic.Ra.Ura.{Ura}
+use mir.Syntax.{Ty, Dict, impl, tnil, tcons, dnil, method, no_args}
+use types.Logic.{Logic, sem}
+use denote.RattleType.{RattleType}
+use denote.Struct.Owning.{shape}
+use denote.Struct.Struct.{Struct, Struct-Makes}
 pub use Rattle.std.proofs.impls.GlobalAllocator.TheImpl.Met.{passed}
 pub use Rattle.std.specs.contracts.impls.GlobalAllocator.TheImpl.{ghosts, dict}
-use seplogic.Ra.Ura.{Ura}
-use base.Fraction.{full_share}
-use base.Logic.{emp, emp∗, sep, ex}
-use base.Fml.{ftrue, fsep, flft}
 use mir.Raw.{raw as bare}
-use mir.Syntax.{Dict, impl, tnil, tcons, dnil, method, no_args}
 use contract.BorrowLft.{◌⊑◌}
-use contract.Monad.{fact, fact_i}
-use contract.Running.{Running}
 use prog.Model.{Model}
 use prog.Wired.{Wired}
-use types.Kit.{Item, Goal, Step, step, ‵, raw, ◌⊛◌, ◌$◌, ◌∵◌, !, qed, done, keep, move, use0, join, show}
-use types.Logic.{Logic, sem}
-use denote.Exit.{no}
-use denote.Param.{layout, arg}
 use denote.Param.Glue.{Met, signature, spent}
 use denote.Param.Laws.{Laws, arg_laws}
 use denote.Param.NoDrop.{glues}
-use denote.RattleType.{RattleType}
-use denote.Steps.{nothing}
 use denote.Triple.Carry.{beside, spared}
-use denote.Triple.Clauses.{Ended}
 use denote.Triple.Spec.{Spec, triple_of}
 use denote.Triple.Statement.{Contract}
-use denote.Triple.Table.{widened, run_framed}
+use Rattle.buck_held.proofs.buck_held++kept++KeptBook+Destruct.drop.Met.{met}
+unfoldable pub use contract.Running.{tables_of}
+use Rattle.buck_held.proofs.handle.Handle.TheLaws as laws
+use Rattle.buck_held.specs.contracts.handle.Handle as handle
 use Rattle.std.proofs.alloc.Global.TheLaws as heap_laws
 use Rattle.std.proofs.boxed.Box.TheLaws as box_laws
 use Rattle.std.specs.contracts.alloc.Global as heap
@@ -34,7 +56,6 @@ use Rattle.std.specs.contracts.boxed.Box as box
 use Rattle.std.specs.contracts.boxed.Box.from_raw as from_raw
 use Rattle.std.specs.contracts.boxed.Box.into_raw as into_raw
 use Rattle.buck_held.proofs.Destruct++none.drop.Code as no_drop
-use Rattle.buck_held.proofs.buck_held++kept++KeptBook+Destruct.drop.Met.{met}
 use Rattle.buck_held.proofs.buck_held++kept++KeptBook+Destruct.drop.Symbol as drop_symbol
 use Rattle.buck_held.proofs.kept.KeptBook.TheLaws as kept_laws
 use Rattle.buck_held.specs.contracts.buck_held++kept++KeptBook+Destruct.drop as drop
@@ -129,3 +150,40 @@ module _ {M : Type 1} {𝓤 : Ura M} {𝓛 : Logic 𝓤} {K : Type 0} {Γ : List
       use0 𝓛 (raw (fact 𝓤 ([] ⊑ KeptArg.lives))) (fact_i 𝓤 _ (emp 𝓤) (kept_laws.the_within [])) $ join t $
       move t (1 ∷ []) $ nothing t $ use0 𝓛 (‵ (flft [] full_share)) (𝓛.lfts.lft-nil full_share) $ join t $
       use0 𝓛 (‵ (flft [] full_share)) (𝓛.lfts.lft-nil full_share) $ join t $ join t $ join t $ rest)
+
+abbrev pub Handle : RattleType
+Handle = handle.the_row
+
+abbrev pub handle_Lawful : {M : Type 1} {𝓤 : Ura M} (𝓛 : Logic 𝓤) → Lawful 𝓛 Handle
+handle_Lawful 𝓛 = laws.the_row_laws.lawful 𝓛
+
+-- a handle is stored as its pointer
+abbrev pub handle_val : Handle.Denot → Val
+handle_val = laws.lowered
+
+abbrev pub handle_vals : Handle.Denot → List Val
+handle_vals h = handle_val h ∷ []
+
+pub handle_Tells : (h : Handle.Denot) (vs : List Val) → Is Handle h vs → vs ≡ handle_vals h
+handle_Tells = laws.lowers.val_is
+
+-- a pointer makes a handle, with what is owned there
+pub handle_in : {M : Type 1} {𝓤 : Ura M} {𝓛 : Logic 𝓤} {K : Type 0} {Γ : List (Item 𝓤)} {G : Goal 𝓤 𝓛.H}
+    → K → (h : Handle.Denot)
+    → Step K 𝓛 (‵ (Handle.own_val h (handle_vals h)) ∷ Γ) G (‵ (handle.the_heap h) ∷ Γ) G
+handle_in {𝓛 = 𝓛} t h = step (λ rest.
+    let Pointer = Struct (shape handle.the_type) in let made =
+    Struct-Makes 𝓛 (shape handle.the_type) (rawptr_pure, tt) in
+    owned t Pointer (Is Pointer) made (h.at, tt) (handle_vals h) ((rawptr_vals h.at, tt), (refl, (refl, tt)))
+    $ fjoin t $ rest)
+
+-- the value that is there
+pub the_value : {X : Type 0} (held : Option X) → IsSome held → (x : X) × (held ≡ Some x)
+the_value None is = absurd (subst T (sym is) tt)
+the_value (Some x) is = (x, refl)
+
+-- what has one machine type is one machine value
+pub one_of : (τ : Ty) (vs : List Val) → Typed (τ ∷ []) vs → (w : Val) × (vs ≡ w ∷ []) × (T (has_ty τ w) × WT w)
+one_of τ [] typed = absurd typed
+one_of τ (w ∷ []) typed = (w, refl, typed.0)
+one_of τ (w ∷ v ∷ vs) typed = absurd typed.1
