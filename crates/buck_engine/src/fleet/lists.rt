@@ -92,7 +92,7 @@ pub struct Input {
 
 /// Reads an instruction file and stem files, if there are 1 to 64 stem files: else `Seats`, before anything is read.
 /// The instruction file is file 0, the k-th stem file is file k; each is read, and refused if it must be, before the
-/// next, as [`run_in_turn`](crate::run_in_turn) says. Whoever looks on at the workers is shown the instruction.
+/// next, as [`run_in_turn`](crate::run_in_turn) says. The onlooker of the workers is shown the instruction.
 pub fn read_input<T: Workers, R: io::Read>(
     workers: &T,
     alloc: Global,

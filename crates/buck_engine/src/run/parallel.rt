@@ -31,7 +31,7 @@ pub struct BuckTask<'a> {
 }
 
 /// The text of an instruction file and a stem file in pieces, whose stems are read and cut in several threads at once.
-/// Whoever looks on is shown the files.
+/// The onlooker of the workers is shown the files.
 fn text_in_parts<T: Threads + Sync, L: Onlooker, R: io::Read>(
     alloc: Global,
     workers: &SeveralThreads<'_, T, L>,

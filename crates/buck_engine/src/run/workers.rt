@@ -47,7 +47,7 @@ pub trait Workers {
     /// That what starts their threads may be shared among these.
     ghost can_share: { Type 0 };
 
-    /// The instruction of the files is read; whoever looks on at their work is shown it.
+    /// The instruction of the files is read; the onlooker, if there is one, is shown it.
     fn show(&self, _instruction: &Instruction) {}
 
     /// The stems of some bytes, or why there are none, as [`read_stm`] says.
