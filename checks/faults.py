@@ -3,7 +3,7 @@
 
     python3 checks/faults.py PROGRAM [--write]
 
-- Fault lines and their sentences are those of crates/buck_told/src/rows.rt, in its order. Status and cause are written by
+- Fault lines and their sentences are those of crates/buckfleet_explain/src/rows.rt, in its order. Status and cause are written by
   hand, and kept.
 - Items are those that `explain` knows, of the numbers that the sources' slots have; with their names, ranges, orders and
   counts, as its sentences have them.
@@ -17,7 +17,7 @@ import sys
 
 TOP = pathlib.Path(__file__).resolve().parent.parent
 PAGE = TOP / "docs" / "FAULTS.md"
-TOLD = TOP / "crates" / "buck_told" / "src"
+TOLD = TOP / "crates" / "buckfleet_explain" / "src"
 LINES = "| Line | Status | Cause | Sentence |\n|---|---|---|---|\n"
 ITEMS = "| File | Item | Name | Range | Order | Count |\n|---|---|---|---|---|---|\n"
 
@@ -43,7 +43,7 @@ def explained(program, line):
 
 def items(program):
     """Each item: the file, its number and kind, its name, and the range, order and count of its numbers."""
-    sources = "".join(path.read_text() for path in TOP.glob("crates/buck_*/src/**/*.rt"))
+    sources = "".join(path.read_text() for path in TOP.glob("crates/buck*/src/**/*.rt"))
     keys = sorted({(int(number), int(kind)) for number, kind in re.findall(r"slot!\((\d+), (\d+)\b", sources)})
     texts = {line: text.removeprefix(ITEM) for lines, text in sentences() for line in lines}
     for file, before in ("apt", "apt"), ("stm", "stm 1"):

@@ -5,8 +5,10 @@
 
 - Each product crate has a page, crates/NAME/README.md, of at most 80 lines and 2,500 bytes, which names every module of
   its src/: in backticks, a module below another one by its path, as `run/bucking`. What it lists under "Modules" is a
-  module or a submodule of the crate, and names there and under "Use it" stand in the crate.
-- Each crate's name begins with its kind: buck_ or buckfleet is the product, and KINDS the rest.
+  module or a submodule of the crate, and names there and under "Use it" stand in the crate. The page of a crate whose
+  name others begin with names these.
+- Each crate is of one of the FAMILIES, by its name. In crates.txt a family stands together below a heading, in the
+  order of FAMILIES, and each crate behind those that it is built on.
 - The code map of docs/ARCHITECTURE.md has each crate of the product with the first sentence of its page and the crates
   that it is built on (--write writes it).
 - The files of crates/*/data that stand in examples/ too are equal to these: those of the same name, those of COPIES.
@@ -20,6 +22,7 @@
   texts of the program, as the sentences in docs/FAULTS.md, don't count. Comments of crates have none of those at 0.
 - Each public item of a product crate has a doc comment. That of each public number, a constant, a field or one in a
   variant, says its unit, its range, from where it counts, or what it counts, in one of the words of UNITS.
+- No line of imports in specs/ and proofs/ is wider than MOST_OF_IMPORTS columns.
 - No line of src/ and specs/ of a product crate is wider than 120 columns, imports aside, but for as many as WIDE allows
   each crate.
 
@@ -37,8 +40,23 @@ from quick import TOP, crates
 # Copies of a file of examples/ under another name.
 COPIES = {"crates/run_view/data/saw.apt": "two_stems.apt", "crates/bench_calls/data/saw.apt": "two_stems.apt"}
 
-# Callers that prove wrong bodies wrong, tests, what they share, whole runs, what is timed, uses of the libraries.
-KINDS = ("wrong_", "test_", "fixture_", "run_", "bench_", "example_")
+# The families of crates, by their names: files, one stem, the history of one thread, many harvesters, the page, the
+# program, what C calls; callers that prove wrong bodies wrong, what tests share, tests, whole runs, what is timed, uses.
+FAMILIES = (
+    r"buck_(record|apt|stem)(_\w+)?",
+    r"buck_(value|dp)(_\w+)?",
+    r"buck_(rule|book)(_\w+)?",
+    r"buck_(board|fleet)(_\w+)?",
+    r"buck_page(_\w+)?",
+    r"buckfleet(_\w+)?",
+    r"buck_c(_\w+)?",
+    r"wrong_\w+",
+    r"fixture_\w+",
+    r"test_\w+",
+    r"run_\w+",
+    r"bench_\w+",
+    r"example_\w+",
+)
 
 # The page with the code map, and the head of that.
 ARCHITECTURE = "docs/ARCHITECTURE.md"
@@ -47,25 +65,26 @@ MAP = "| Crate | Does | Built on |"
 MOST_LINES = 80
 MOST_BYTES = 2500
 MOST_COLUMNS = 120
+MOST_OF_IMPORTS = 240
 
 # So many lines are wider today: texts and styles that stand as they are printed, and long clauses. None may be added; a
 # crate that isn't named has none.
 WIDE = {
     "buck_record": 4,
-    "buck_told": 38,
+    "buckfleet_explain": 38,
     "buck_apt": 2,
     "buck_stem": 4,
     "buck_dp": 21,
-    "buck_book": 5,
-    "buck_journal": 2,
+    "buck_book_postings": 5,
+    "buck_book_journal": 2,
     "buck_fleet": 3,
-    "buck_turn": 1,
-    "buck_charts": 1,
-    "buck_drawn": 1,
-    "buck_unlawful": 10,
-    "buck_view": 8,
-    "buck_engine": 10,
-    "buck_command": 1,
+    "buck_fleet_round_robin": 1,
+    "buck_page_charts": 1,
+    "buck_page_drawings": 1,
+    "buck_page_fault": 10,
+    "buck_page": 8,
+    "buckfleet_engine": 10,
+    "buckfleet_command": 1,
     "buckfleet": 4,
 }
 
@@ -138,11 +157,32 @@ def names(paths):
     return set().union(*(words_of(path) | (words_of(read(path)) if path.endswith(SOURCES) else set()) for path in paths))
 
 
+def wrong_order():
+    """Crates of no family, crates.txt in another order than FAMILIES or than crates are built, missing headings."""
+    last, before, heading = -1, set(), False
+    for line in read("crates.txt").split("\n"):
+        crate, _, on = line.partition("#")[0].partition(":")
+        crate = crate.split(" ")[0]
+        if not crate:
+            heading = line.startswith("#") or heading and line != ""
+            continue
+        place = next((k for k, form in enumerate(FAMILIES) if re.fullmatch(form, crate)), None)
+        if place is None:
+            yield f"crates/{crate} is of no family"
+        elif place < last:
+            yield f"{crate} stands behind a later family in crates.txt"
+        else:
+            if place > last and not heading:
+                yield f"{crate} begins a family in crates.txt with no heading"
+            last = place
+        yield from (f"{crate} stands before {it} in crates.txt" for it in on.split() if it in crates() and it not in before)
+        before.add(crate)
+        heading = False
+
+
 def wrong_names():
-    """Crates whose name doesn't begin with their kind, and folders that crates.txt doesn't name."""
-    for crate in crates():
-        if not crate.startswith(("buck_", *KINDS)) and crate != "buckfleet":
-            yield f"crates/{crate} is of no kind"
+    """Folders that crates.txt doesn't name, and what is wrong with its order."""
+    yield from wrong_order()
     for folder in sorted(os.listdir(os.path.join(TOP, "crates"))):
         if folder not in crates():
             yield f"crates/{folder} isn't in crates.txt"
@@ -164,6 +204,8 @@ def wrong_pages():
         named = set(ticked(text))
         yield from (f"{page} doesn't name the module `{name}`" for name in modules(crate) if name not in named)
         yield from (f"{page} names `{word}`, which {crate} hasn't" for word in strangers(crate, text))
+        family = [other for other in product() if other.startswith(f"{crate}_") and other not in named]
+        yield from (f"{page} doesn't name `{other}` of its family" for other in family)
 
 
 def strangers(crate, text):
@@ -370,6 +412,15 @@ def wrong_widths():
             yield f"{crate} has {wide} lines over {MOST_COLUMNS} columns, {allowed} may stand: {told}"
 
 
+def wrong_imports():
+    """Lines of imports that are too wide."""
+    for path in files():
+        if path.endswith(".antt"):
+            for number, line in enumerate(read(path).split("\n"), 1):
+                if len(line) > MOST_OF_IMPORTS and re.match(r"(pub )?use ", line):
+                    yield f"{path}, line {number}, has {len(line)} columns, {MOST_OF_IMPORTS} at most"
+
+
 def public_numbers(lines):
     """The public numbers of a source's lines: the line of each, from 1, its name, its type, and what is said of it: its
     doc comment, that of its variant or of its struct without names, and that of a type that names it in backticks."""
@@ -428,7 +479,7 @@ def main():
         with open(os.path.join(TOP, ARCHITECTURE), "w") as page:
             page.write(text)
     looks = (wrong_names, wrong_pages, wrong_map, wrong_copies, wrong_links, wrong_files, wrong_words, wrong_citations)
-    looks += (wrong_habits, wrong_docs, wrong_units, wrong_widths)
+    looks += (wrong_habits, wrong_docs, wrong_units, wrong_widths, wrong_imports)
     wrong = [line for look in looks for line in look()] + wrong_bodies.looked_at()[1]
     for line in wrong:
         print(line)

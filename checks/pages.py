@@ -26,7 +26,7 @@ HEADLINE = [
     "buck_fleet::Fleet::try_commit",
     "buck_fleet::Fleet::retarget",
     "buck_fleet::Fleet::close",
-    "buck_book::laws::prefix_is_lawful",
+    "buck_book_postings::laws::prefix_is_lawful",
 ]
 
 PROMISES = [
@@ -34,32 +34,32 @@ PROMISES = [
     (
         "the printed text",
         [
-            "buck_engine::run_buck",
-            "buck_engine::run_bare",
-            "buck_engine::buck_text",
-            "buck_engine::write_fault",
-            "buck_engine::status",
+            "buckfleet_engine::run_buck",
+            "buckfleet_engine::run_bare",
+            "buckfleet_engine::buck_text",
+            "buckfleet_engine::write_fault",
+            "buckfleet_engine::status",
         ],
     ),
-    ("the history of a book", ["buck_book::Book::*", "buck_rule::Rule::*"]),
-    ("a checked journal", ["buck_engine::run_check", "buck_journal::read_journal", "buck_journal::replay*"]),
-    ("a journal shown", ["buck_engine::run_view", "buck_engine::run_table", "buck_engine::serve_view", "buck_figures::figures_of"]),
-    ("the report", ["buck_engine::report_text", "buck_engine::degree", "buck_engine::run_report"]),
-    ("a whole run of the program", ["buck_engine::serve", "buck_engine::conclude", "buck_engine::explain"]),
+    ("the history of a book", ["buck_book_postings::Book::*", "buck_rule::Rule::*"]),
+    ("a checked journal", ["buckfleet_engine::run_check", "buck_book_journal::read_journal", "buck_book_journal::replay*"]),
+    ("a journal shown", ["buckfleet_engine::run_view", "buckfleet_engine::run_table", "buckfleet_engine::serve_view", "buck_page_figures::figures_of"]),
+    ("the report", ["buckfleet_engine::report_text", "buckfleet_engine::degree", "buckfleet_engine::run_report"]),
+    ("a whole run of the program", ["buckfleet_engine::serve", "buckfleet_engine::conclude", "buckfleet_engine::explain"]),
     ("the closed fleet", ["buck_fleet::Fleet::*", "buck_fleet::Closed::*", "buck_fleet::run_fleet"]),
-    ("a journal tied to files and a rule", ["buck_engine::run_check_with", "buck_engine::serve_check"]),
+    ("a journal tied to files and a rule", ["buckfleet_engine::run_check_with", "buckfleet_engine::serve_check"]),
     (
         "a fleet over files",
         [
-            "buck_engine::run_fleet_files",
-            "buck_engine::run_in_turn",
-            "buck_engine::serve_fleet",
+            "buckfleet_engine::run_fleet_files",
+            "buckfleet_engine::run_in_turn",
+            "buckfleet_engine::serve_fleet",
         ],
     ),
-    ("before a harvest and after it", ["buck_sweep::*", "buck_draws::*", "buck_terms::*", "buck_trial::*", "buck_ledger::*"]),
-    ("the words of the program", ["buck_command::serve_work"]),
-    ("the world and its runs", ["buck_world::*"]),
-    ("the library that C calls", ["buck_calls::*", "buck_c::*"]),
+    ("before a harvest and after it", ["buckfleet_trial_sweep::*", "buckfleet_trial_draws::*", "buckfleet_terms_files::*", "buckfleet_trial::*", "buckfleet_proceeds::*"]),
+    ("the words of the program", ["buckfleet_command::serve_work"]),
+    ("the world and its runs", ["buck_fleet_world::*"]),
+    ("the library that C calls", ["buck_c_calls::*", "buck_c::*"]),
     ("all other public calls", ["*"]),
 ]
 
@@ -200,7 +200,7 @@ def files_in(crate, part, ending):
 
 def libraries():
     """The libraries of the product, lowest first."""
-    return [name for name in crates() if name.startswith("buck_")]
+    return [name for name in crates() if name.startswith(("buck_", "buckfleet_"))]
 
 
 def exported(files):
@@ -263,7 +263,7 @@ def reached(found, roots):
     seen, types, left = [], set(), list(roots)
     while left:
         at = left.pop(0)
-        declared = re.match(r"(buck_\w+)\.specs\.declared(?:\.\w+)*?\.([A-Z]\w*)", at[0])
+        declared = re.match(r"(buck(?:fleet)?_\w+)\.specs\.declared(?:\.\w+)*?\.([A-Z]\w*)", at[0])
         if declared and declared[2] != "TheConstants":
             types.add((declared[1], declared[2]))
         if at in seen or at[0] not in found:
@@ -330,7 +330,7 @@ def in_order(text):
 def types_in(lines):
     """The types that a file declares: for each the lines of its declaration, of its view, and the words to follow."""
     rust = {}
-    for use in re.findall(r"(?m)^(?:pub )?use ((?:crate|buck_\w+)[^;]*);", "\n".join(lines)):
+    for use in re.findall(r"(?m)^(?:pub )?use ((?:crate|buck(?:fleet)?_\w+)[^;]*);", "\n".join(lines)):
         rust.update({name: use.split("::")[0] for name in re.findall(r"\b[A-Z]\w*\b(?!::)", use)})
     for at, line in enumerate(lines):
         declared = re.match(r"pub (?:struct|enum) (\w+)", line)
@@ -373,7 +373,7 @@ class Reading:
             if word in stands:
                 yield "definition", page, word
             elif word in taken:
-                declared = re.match(r"(buck_\w+)\.specs\.declared\.(?:\w+\.)*?([A-Z]\w*)", taken[word])
+                declared = re.match(r"(buck(?:fleet)?_\w+)\.specs\.declared\.(?:\w+\.)*?([A-Z]\w*)", taken[word])
                 if declared and (declared[1], declared[2]) in self.types:
                     yield "type", declared[1], declared[2]
                 elif taken[word] in self.found:
@@ -401,7 +401,7 @@ class Reading:
         """The types of the product that the signature of a call names, and the type that it is a method of."""
         crate, _, lines, at = self.calls[name]
         rust = {}
-        for use in re.findall(r"(?m)^use ((?:crate|buck_\w+)[^;]*);", "\n".join(lines)):
+        for use in re.findall(r"(?m)^use ((?:crate|buck(?:fleet)?_\w+)[^;]*);", "\n".join(lines)):
             rust.update({name: use.split("::")[0] for name in re.findall(r"\b[A-Z]\w*\b(?!::)", use)})
         signature = "\n".join(lines[at : self.head(name)[1] + 1]).split("requires")[0]
         yield from self.of_types(f"{name.split('::')[-2]} {signature}", crate, rust)

@@ -29,15 +29,15 @@ ABOUT = {
     "wrong_files::instruction::classes_are_rows": ("buck_apt", "Assortment::classes"),
     "wrong_files::instruction::classes_without_the_first_assortment": ("buck_apt", "Instruction::classes"),
     "wrong_best::value::copy_at_base_prices": ("buck_value", "Sheet::copy"),
-    "wrong_book::book::other_rule_begins_anew": ("buck_book", "Book::with_rule"),
-    "wrong_book::book::posting_clone_as_the_first": ("buck_book", "Posting::clone"),
-    "wrong_book::walk::begins_after_a_cut": ("buck_book", "Walk::begins_period"),
-    "wrong_sweep::runs::period_of_nothing_accepted": ("buck_sweep", "combinations"),
-    "wrong_view::figures::count_of_the_last_cut_forgotten": ("buck_figures", "figures_of"),
-    "wrong_view::names::*_gets_through": ("buck_words", "Name"),
-    "wrong_view::names::text_printed_by_its_bytes": ("buck_words", "Name"),
-    "wrong_engine::views::journals_65_accepted": ("buck_engine", "ViewTask"),
-    "wrong_world::steps::*": ("buck_world", "World::step"),
+    "wrong_book::book::other_rule_begins_anew": ("buck_book_postings", "Book::with_rule"),
+    "wrong_book::book::posting_clone_as_the_first": ("buck_book_postings", "Posting::clone"),
+    "wrong_book::walk::begins_after_a_cut": ("buck_book_postings", "Walk::begins_period"),
+    "wrong_sweep::runs::period_of_nothing_accepted": ("buckfleet_trial_sweep", "combinations"),
+    "wrong_page::figures::count_of_the_last_cut_forgotten": ("buck_page_figures", "figures_of"),
+    "wrong_page::names::*_gets_through": ("buck_page_text", "Name"),
+    "wrong_page::names::text_printed_by_its_bytes": ("buck_page_text", "Name"),
+    "wrong_engine::views::journals_65_accepted": ("buckfleet_engine", "ViewTask"),
+    "wrong_world::steps::*": ("buck_fleet_world", "World::step"),
 }
 
 # Calls of lists of the standard library: of the product only if their type is named.
@@ -70,7 +70,7 @@ def functions(lines):
 def imports(text):
     """The names that a source takes from crates of the product, each with its crate."""
     taken = {}
-    for use in re.findall(r"(?ms)^use (buck_\w+(?:::.*?)?);", text):
+    for use in re.findall(r"(?ms)^use (buck(?:fleet)?_\w+(?:::.*?)?);", text):
         crate = use.split("::")[0]
         taken.update({name: crate for name in re.findall(r"\b[A-Za-z_]\w*\b(?!::)", use)})
     return taken

@@ -1,5 +1,6 @@
 -- What the lines of refusals that passed say: the numbers are within the limits.
-use Rattle.std.proofs.Common.{◌≡◌, ◌≢◌, ℕ, ◌*◌, ◌<◌, ◌≤◌, Bool, true, false, not, List, [], ◌∷◌, ◌==◌, Ok, Option, Some, None, length, sum, slice_index, refl, sym, ◌∙◌, arith, eqb-true, All, zero, suc, add-one, inl, inr, nat_lt, nat_le, ◌%◌}
+use Rattle.std.proofs.Common.{◌≡◌, ◌≢◌, ℕ, ◌*◌, ◌<◌, ◌≤◌, Bool, true, false, not, List, [], ◌∷◌, ◌==◌, Ok, Option, Some, None, length, sum, slice_index, refl, sym, ◌∙◌, arith, eqb-true, All, zero, suc, add-one, inl, inr, nat_lt, nat_le}
+use Rattle.std.proofs.Common.{◌%◌}
 use Rattle.std.specs.Prelude.{position, find}
 use Rattle.std.specs.List.{AllByRecursion, list_all}
 use Rattle.std.specs.List.Sorted.{IsStrictlyIncreasing}

@@ -1,28 +1,15 @@
-//! The book of one thread: plans of stems, and the history of what was cut under which prices.
+//! The book of one thread, and its journal: histories of cuts and demands, as text and replayed.
+//!
+//! What is here stands in two crates below, so a change of the journal costs the book no proof.
 #![tactic(auto)]
 
-mod book;
-mod degree;
-mod demand;
-mod entry;
 pub mod laws;
-mod parts;
-mod plan;
-mod posting;
-mod pricing;
-mod ready;
-mod running;
-mod targets;
-mod walk;
 
-pub use book::Book;
-pub use buck_record::Memory;
-pub use degree::degree_at;
-pub use demand::{DemandRefusal, ReadyDemand};
-pub use entry::Entry;
-pub use parts::Parts;
-pub use plan::Plan;
-pub use posting::{Demand, Kept, MOST_POSTINGS, Posting};
-pub use ready::{CutFault, Ready, Refusal};
-pub use targets::{TargetsFault, check_targets};
-pub use walk::Walk;
+pub use buck_book_journal::{
+    ITEMS, Journal, JournalFault, ReplayFault, Stop, journal_text, read_journal,
+    read_journal_in_parts, replay, replay_in_order, replay_in_parts, replay_to_end, slots,
+};
+pub use buck_book_postings::{
+    Book, CutFault, Demand, DemandRefusal, Entry, Kept, MOST_POSTINGS, Memory, Parts, Plan,
+    Posting, Ready, ReadyDemand, Refusal, TargetsFault, Walk, check_targets, degree_at,
+};

@@ -1,33 +1,33 @@
 //! The calls of a book that is kept in a block of the caller's memory.
 ghost use Rattle.std.specs.Prelude.{◌≡◌, None, is_some, if◌then◌else◌};
-ghost use Rattle.buck_calls.specs.Room.{IsPut};
-ghost use Rattle.buck_calls.specs.Books.{AnswersOpen, AnswersCut, AnswersRetarget, IsCallOf, closed};
-ghost use Rattle.buck_calls.specs.States.{AnswersDegree, AnswersState, HasCounts, HasPrices, HasTargets, IsShownBy};
-ghost use Rattle.buck_calls.specs.Journals.{HasJournal};
-ghost use Rattle.buck_calls.specs.Looked.{AnswersPreview, AnswersPrice};
+ghost use Rattle.buck_c_calls.specs.Room.{IsPut};
+ghost use Rattle.buck_c_calls.specs.Books.{AnswersOpen, AnswersCut, AnswersRetarget, IsCallOf, closed};
+ghost use Rattle.buck_c_calls.specs.States.{AnswersDegree, AnswersState, HasCounts, HasPrices, HasTargets, IsShownBy};
+ghost use Rattle.buck_c_calls.specs.Journals.{HasJournal};
+ghost use Rattle.buck_c_calls.specs.Looked.{AnswersPreview, AnswersPrice};
 
-use buck_calls::{Appraised, Cut, State, Terms};
-use buck_held::{Block, Felled, NamedLog, Zone};
+use buck_c_calls::{Appraised, Cut, State, Terms};
+use buck_c_session::{Block, Felled, NamedLog, Zone};
 use std::alloc::Global;
 
-/// [`buckfleet_open`](buck_calls::buckfleet_open), for C.
+/// [`buckfleet_open`](buck_c_calls::buckfleet_open), for C.
 #[unsafe(no_mangle)]
 pub extern "C" fn buckfleet_open(alloc: Global, book: &mut Block, apt: &[u8], terms: &Terms) -> u8
     ensures { AnswersOpen apt.now terms.now book.old.handle.held book.new.handle.held result }
 {
-    buck_calls::buckfleet_open(alloc, book, apt, terms)
+    buck_c_calls::buckfleet_open(alloc, book, apt, terms)
 }
 
-/// [`buckfleet_close`](buck_calls::buckfleet_close), for C.
+/// [`buckfleet_close`](buck_c_calls::buckfleet_close), for C.
 #[unsafe(no_mangle)]
 pub extern "C" fn buckfleet_close(alloc: Global, book: &mut Block) -> u8
     ensures left { book.new.handle.held ≡ None }
     ensures status { result ≡ (if is_some book.old.handle.held then 0 else closed) }
 {
-    buck_calls::buckfleet_close(alloc, book)
+    buck_c_calls::buckfleet_close(alloc, book)
 }
 
-/// [`buckfleet_cut`](buck_calls::buckfleet_cut), for C.
+/// [`buckfleet_cut`](buck_c_calls::buckfleet_cut), for C.
 #[unsafe(no_mangle)]
 pub extern "C" fn buckfleet_cut(
     alloc: Global,
@@ -40,10 +40,10 @@ pub extern "C" fn buckfleet_cut(
     ensures { IsCallOf (AnswersCut felled.now samples.now zones.now cut.old cut.new) (cut.new ≡ cut.old)
         book.old.handle.held book.new.handle.held result }
 {
-    buck_calls::buckfleet_cut(alloc, book, felled, samples, zones, cut)
+    buck_c_calls::buckfleet_cut(alloc, book, felled, samples, zones, cut)
 }
 
-/// [`buckfleet_preview`](buck_calls::buckfleet_preview), for C.
+/// [`buckfleet_preview`](buck_c_calls::buckfleet_preview), for C.
 #[unsafe(no_mangle)]
 pub extern "C" fn buckfleet_preview(
     alloc: Global,
@@ -56,10 +56,10 @@ pub extern "C" fn buckfleet_preview(
     ensures same { book.new.handle.held ≡ book.old.handle.held }
     ensures preview { AnswersPreview felled.now samples.now zones.now book.old.handle.held cut.old cut.new result }
 {
-    buck_calls::buckfleet_preview(alloc, book, felled, samples, zones, cut)
+    buck_c_calls::buckfleet_preview(alloc, book, felled, samples, zones, cut)
 }
 
-/// [`buckfleet_price_of`](buck_calls::buckfleet_price_of), for C.
+/// [`buckfleet_price_of`](buck_c_calls::buckfleet_price_of), for C.
 #[unsafe(no_mangle)]
 pub extern "C" fn buckfleet_price_of(
     alloc: Global,
@@ -74,10 +74,10 @@ pub extern "C" fn buckfleet_price_of(
     ensures price { AnswersPrice felled.now samples.now zones.now logs.now book.old.handle.held
         appraisal.old appraisal.new result }
 {
-    buck_calls::buckfleet_price_of(alloc, book, felled, samples, zones, logs, appraisal)
+    buck_c_calls::buckfleet_price_of(alloc, book, felled, samples, zones, logs, appraisal)
 }
 
-/// [`buckfleet_retarget`](buck_calls::buckfleet_retarget), for C.
+/// [`buckfleet_retarget`](buck_c_calls::buckfleet_retarget), for C.
 #[unsafe(no_mangle)]
 pub extern "C" fn buckfleet_retarget(
     alloc: Global,
@@ -88,19 +88,19 @@ pub extern "C" fn buckfleet_retarget(
     ensures { IsCallOf (AnswersRetarget harvester targets.now) (Unit {0})
         book.old.handle.held book.new.handle.held result }
 {
-    buck_calls::buckfleet_retarget(alloc, book, harvester, targets)
+    buck_c_calls::buckfleet_retarget(alloc, book, harvester, targets)
 }
 
-/// [`buckfleet_state`](buck_calls::buckfleet_state), for C.
+/// [`buckfleet_state`](buck_c_calls::buckfleet_state), for C.
 #[unsafe(no_mangle)]
 pub extern "C" fn buckfleet_state(alloc: Global, book: &mut Block, state: &mut State) -> u8
     ensures same { book.new.handle.held ≡ book.old.handle.held }
     ensures state { AnswersState book.old.handle.held state.old state.new result }
 {
-    buck_calls::buckfleet_state(alloc, book, state)
+    buck_c_calls::buckfleet_state(alloc, book, state)
 }
 
-/// [`buckfleet_prices`](buck_calls::buckfleet_prices), for C.
+/// [`buckfleet_prices`](buck_c_calls::buckfleet_prices), for C.
 #[unsafe(no_mangle)]
 pub extern "C" fn buckfleet_prices(
     alloc: Global,
@@ -111,10 +111,10 @@ pub extern "C" fn buckfleet_prices(
     ensures same { book.new.handle.held ≡ book.old.handle.held }
     ensures put { IsPut (IsShownBy HasPrices book.old.handle.held) out.old out.new written.new result }
 {
-    buck_calls::buckfleet_prices(alloc, book, out, written)
+    buck_c_calls::buckfleet_prices(alloc, book, out, written)
 }
 
-/// [`buckfleet_targets`](buck_calls::buckfleet_targets), for C.
+/// [`buckfleet_targets`](buck_c_calls::buckfleet_targets), for C.
 #[unsafe(no_mangle)]
 pub extern "C" fn buckfleet_targets(
     alloc: Global,
@@ -125,10 +125,10 @@ pub extern "C" fn buckfleet_targets(
     ensures same { book.new.handle.held ≡ book.old.handle.held }
     ensures put { IsPut (IsShownBy HasTargets book.old.handle.held) out.old out.new written.new result }
 {
-    buck_calls::buckfleet_targets(alloc, book, out, written)
+    buck_c_calls::buckfleet_targets(alloc, book, out, written)
 }
 
-/// [`buckfleet_counts`](buck_calls::buckfleet_counts), for C.
+/// [`buckfleet_counts`](buck_c_calls::buckfleet_counts), for C.
 #[unsafe(no_mangle)]
 pub extern "C" fn buckfleet_counts(
     alloc: Global,
@@ -139,10 +139,10 @@ pub extern "C" fn buckfleet_counts(
     ensures same { book.new.handle.held ≡ book.old.handle.held }
     ensures put { IsPut (IsShownBy HasCounts book.old.handle.held) out.old out.new written.new result }
 {
-    buck_calls::buckfleet_counts(alloc, book, out, written)
+    buck_c_calls::buckfleet_counts(alloc, book, out, written)
 }
 
-/// [`buckfleet_degree`](buck_calls::buckfleet_degree), for C.
+/// [`buckfleet_degree`](buck_c_calls::buckfleet_degree), for C.
 #[unsafe(no_mangle)]
 pub extern "C" fn buckfleet_degree(
     alloc: Global,
@@ -153,10 +153,10 @@ pub extern "C" fn buckfleet_degree(
     ensures same { book.new.handle.held ≡ book.old.handle.held }
     ensures degree { AnswersDegree assortment book.old.handle.held degree.old degree.new result }
 {
-    buck_calls::buckfleet_degree(alloc, book, assortment, degree)
+    buck_c_calls::buckfleet_degree(alloc, book, assortment, degree)
 }
 
-/// [`buckfleet_journal`](buck_calls::buckfleet_journal), for C.
+/// [`buckfleet_journal`](buck_c_calls::buckfleet_journal), for C.
 #[unsafe(no_mangle)]
 pub extern "C" fn buckfleet_journal(
     alloc: Global,
@@ -167,5 +167,5 @@ pub extern "C" fn buckfleet_journal(
     ensures same { book.new.handle.held ≡ book.old.handle.held }
     ensures put { IsPut (IsShownBy HasJournal book.old.handle.held) out.old out.new written.new result }
 {
-    buck_calls::buckfleet_journal(alloc, book, out, written)
+    buck_c_calls::buckfleet_journal(alloc, book, out, written)
 }

@@ -1,8 +1,10 @@
 -- Price lists that grow, and rows drawn from them.
 use Rattle.buck_value.specs.Volume.{worth_at}
 use Rattle.std.proofs.Common.{nat_eq, true, false, if◌then◌else◌}
-use Rattle.buck_dp.proofs.Words.{IsAtMost, IsTied, IsTaker, cases_lt, sym, slice_get-get_or, IsCovered, get_or, rules, ℕ, ◌+◌, ◌*◌, ◌<◌, ◌≤◌, ◌⊎◌, inl, inr, List, [], ◌∷◌, ◌++◌, All, Contains, length, length-map, get_or-map, map, refl, subst, ap, ◌∙◌, arith, ne_eqb}
-use Rattle.buck_dp.proofs.Words.{Term, le_of_mul-le-mul_right, mul-le-mul, mul-le-mul_left, mul-le-mul_right, div-mul-le_self, All-map, All-contains, Contains-get_or, volume, SheetParts, IsSheet, Offer, Quote, Ask, quote_bid, quote_at, IsAsked}
+use Rattle.buck_dp.proofs.Words.{IsAtMost, IsTied, IsTaker, cases_lt, sym, slice_get-get_or, IsCovered, get_or, rules, ℕ, ◌+◌, ◌*◌, ◌<◌, ◌≤◌, ◌⊎◌, inl, inr, List, [], ◌∷◌, ◌++◌, All, Contains, length, length-map, get_or-map, map, refl}
+use Rattle.buck_dp.proofs.Words.{subst, ap, ◌∙◌, arith, ne_eqb}
+use Rattle.buck_dp.proofs.Words.{Term, le_of_mul-le-mul_right, mul-le-mul, mul-le-mul_left, mul-le-mul_right, div-mul-le_self, All-map, All-contains, Contains-get_or, volume, SheetParts, IsSheet, Offer, Quote, Ask, quote_bid, quote_at}
+use Rattle.buck_dp.proofs.Words.{IsAsked}
 use Rattle.buck_dp.proofs.Words.{IsSmall, IsQuote, IsLed, IsLeading, IsNext, IsPruned, IsTerm, AreTerms, AreQuotes, cell_of, row_of, IsCell, IsRow, Menu, PriceList, IsMenu, Contains-push, Contains-push_cases, Contains-append_left}
 use Rattle.buck_dp.proofs.ListLemmas.{more_at, place_of}
 use Rattle.buck_dp.proofs.TopLemmas.{IsAtMost-refl, worth_at_most}

@@ -19,7 +19,8 @@ pub use Rattle.buck_value.proofs.Rates.{worth_low}
 pub use Rattle.buck_dp.specs.Cutting.{IsCutFrom}
 pub use Rattle.buck_dp.specs.declared.offering.Cell.{Cell}
 pub use Rattle.buck_dp.specs.inner.Searched.{IsPlaced, HasRoom, AllFit, IsNear, IsPart, IsSettled, Reaches, IsMade, IsSearch, CanOffer, IsOffered, AreOffered}
-pub use Rattle.buck_dp.specs.inner.Quotes.{IsTakersBid, IsSmall, quote_bid, IsAsked, IsQuote, AreTerms, AreQuotes, IsLed, IsLeading, cell_of, row_of, IsCell, IsRow, IsPriced, IsClassAt, HasNoPrice, quote_at, IsCovered, IsLeader, IsNext, IsTied}
+pub use Rattle.buck_dp.specs.inner.Quotes.{IsTakersBid, IsSmall, quote_bid, IsAsked, IsQuote, AreTerms, AreQuotes, IsLed, IsLeading, cell_of, row_of, IsCell, IsRow, IsPriced, IsClassAt, HasNoPrice, quote_at, IsCovered, IsLeader, IsNext}
+pub use Rattle.buck_dp.specs.inner.Quotes.{IsTied}
 pub use Rattle.buck_dp.specs.inner.Quotes.{IsPruned, IsTerm}
 pub use Rattle.buck_dp.specs.inner.Logs.{bid_at, IsLogAt, HasTakers, HasNoneOf, next_after, GroundParts, points_of, ends_of, point_after, IsTaker, AreTakersOf, AreKnown}
 unfoldable pub use Rattle.buck_dp.specs.inner.Logs.{log_at}

@@ -1,5 +1,6 @@
 -- what a posting that was added under the lock tells its seat's caller
-use Rattle.buck_fleet.proofs.Words.{◌≡◌, ℕ, ◌+◌, ◌≤◌, List, [], ◌∷◌, ◌++◌, arith, rules, Posting, Demand, DemandParts, PlanParts, IsPlan, HistoryParts, version_of, in_force, entry_of, demand_of, ends-append, ends_with_end, Kept, Reply, DemandReply, SeatParts, Keeps, KeepsOne, seen_of, IsReplyFor, IsOfPlan, IsReplyToTargets, kept_of, kept_demand_of}
+use Rattle.buck_fleet.proofs.Words.{◌≡◌, ℕ, ◌+◌, ◌≤◌, List, [], ◌∷◌, ◌++◌, arith, rules, Posting, Demand, DemandParts, PlanParts, IsPlan, HistoryParts, version_of, in_force, entry_of, demand_of, ends-append, ends_with_end, Kept, Reply}
+use Rattle.buck_fleet.proofs.Words.{DemandReply, SeatParts, Keeps, KeepsOne, seen_of, IsReplyFor, IsOfPlan, IsReplyToTargets, kept_of, kept_demand_of}
 
 -- `inside` is the seat before it
 pub is_kept : (inside seat seat' : SeatParts) (items : List Kept) (k k' : Kept) → inside ≡ seat → items ≡ inside.kept

@@ -1,5 +1,6 @@
 -- what a closed fleet hands out of its book
-use Rattle.buck_fleet.proofs.Words.{◌≡◌, ℕ, ◌-◌, List, [], length, arith, common_steps, All, slice_index_or, slice_get, Some, sum_by, InstructionParts, Posting, HistoryParts, IsFirst, CloseFault, Kept, SeatParts, ClosedParts, IsHandedOut, IsCloseFault}
+use Rattle.buck_fleet.proofs.Words.{◌≡◌, ℕ, ◌-◌, List, [], length, arith, common_steps, All, slice_index_or, slice_get, Some, sum_by, InstructionParts, Posting, HistoryParts, IsFirst, CloseFault, Kept, SeatParts, ClosedParts, IsHandedOut}
+use Rattle.buck_fleet.proofs.Words.{IsCloseFault}
 
 -- what `close` hands out, by what it takes in: the kept lists, and the history with the first of the best cuttings
 pub handed_out : (n : ℕ) (seats : List SeatParts) (c : ClosedParts) (h : HistoryParts) (lists : List (List Kept))

@@ -1,5 +1,6 @@
 -- the same seats after a run
-use Rattle.buck_fleet.proofs.Words.{◌++◌, common_steps, ◌≡◌, ℕ, suc, ◌<◌, ◌==◌, cond, List, [], ◌∷◌, length, get_or, take, refl, ap, ◌∙◌, arith, sum_by, sum_by-cons, SeatParts, parts_of, IsCrew, FleetParts, IsSeatIn, HasRun, HaveRun, stems_at, Arc, Vec, Global, Stem}
+use Rattle.buck_fleet.proofs.Words.{◌++◌, common_steps, ◌≡◌, ℕ, suc, ◌<◌, ◌==◌, cond, List, [], ◌∷◌, length, get_or, take, refl, ap, ◌∙◌, arith, sum_by, sum_by-cons, SeatParts, parts_of, IsCrew, FleetParts, IsSeatIn, HasRun, HaveRun}
+use Rattle.buck_fleet.proofs.Words.{stems_at, Arc, Vec, Global, Stem}
 
 -- sums over seats that are alike
 sums_same : (f : SeatParts → ℕ) (xs ys : List SeatParts) → length ys ≡ length xs

@@ -1,5 +1,6 @@
 -- seats of a new fleet, one by one
-use Rattle.buck_fleet.proofs.Words.{◌≡◌, ℕ, ◌+◌, ◌<◌, if◌then◌else◌, nat_lt, nat_tests, seats_of, List, [], ◌∷◌, ◌++◌, length, get_or, arith, rules, None, All, get_or_append_left, get_or_push, length_push, sum_by_push, All-pop, Board, BoardSeat, IsSeatOf, seen_by, SeatParts, parts_of, IsNew, AreOpened}
+use Rattle.buck_fleet.proofs.Words.{◌≡◌, ℕ, ◌+◌, ◌<◌, if◌then◌else◌, nat_lt, nat_tests, seats_of, List, [], ◌∷◌, ◌++◌, length, get_or, arith, rules, None, All, get_or_append_left, get_or_push, length_push, sum_by_push, All-pop, Board}
+use Rattle.buck_fleet.proofs.Words.{BoardSeat, IsSeatOf, seen_by, SeatParts, parts_of, IsNew, AreOpened}
 
 -- some of the seats have their places, and the next one gets so many of the parts that are left
 pub record AreSoFar (b : Board) (count : ℕ) (seats : List SeatParts) (places : List BoardSeat)

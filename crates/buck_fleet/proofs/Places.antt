@@ -1,5 +1,6 @@
 -- kept lists that are put in their places, one by one
-use Rattle.buck_fleet.proofs.Words.{append-nil, sym, common_steps, sum_by-le, ◌≡◌, ◌≢◌, ℕ, ◌+◌, ◌-◌, ◌<◌, ◌≤◌, ◌==◌, List, [], ◌∷◌, ◌++◌, length, get_or, set, inl, inr, ap, ◌∙◌, arith, append_assoc, cond, length-set, length-append, rules, cases_eq, nat_tests, All, sum_by, sum_by-cons, sum_by-set, get_or-le-sum_by, get_or-set_other, get_or-set_same, get_or-append_seam, Kept, SeatParts, parts_of, IsCrew}
+use Rattle.buck_fleet.proofs.Words.{append-nil, sym, common_steps, sum_by-le, ◌≡◌, ◌≢◌, ℕ, ◌+◌, ◌-◌, ◌<◌, ◌≤◌, ◌==◌, List, [], ◌∷◌, ◌++◌, length, get_or, set, inl, inr, ap, ◌∙◌, arith, append_assoc, cond, length-set, length-append, rules}
+use Rattle.buck_fleet.proofs.Words.{cases_eq, nat_tests, All, sum_by, sum_by-cons, sum_by-set, get_or-le-sum_by, get_or-set_other, get_or-set_same, get_or-append_seam, Kept, SeatParts, parts_of, IsCrew}
 
 -- no two seats are one harvester's
 apart : (n i j : ℕ) (all : List SeatParts) (d : SeatParts) → IsCrew n all → i < length all → j < length all → j ≢ i

@@ -1,5 +1,6 @@
 -- where two lists of replies differ
-use Rattle.buck_fleet.proofs.Words.{◌≡◌, ◌≢◌, ℕ, zero, suc, ◌+◌, ◌<◌, ◌≤◌, List, [], ◌∷◌, ◌++◌, length, take, drop, get_or, drop-cons, add-one, refl, ap, ◌∙◌, arith, nat_tests, append_assoc, common_steps, drop_all, slice_get, slice_get_cases, slice_get_within, none-some, Some, take_one_more, Posting, harvester_of, Kept, DifferFirstAt, replies_from}
+use Rattle.buck_fleet.proofs.Words.{◌≡◌, ◌≢◌, ℕ, zero, suc, ◌+◌, ◌<◌, ◌≤◌, List, [], ◌∷◌, ◌++◌, length, take, drop, get_or, drop-cons, add-one, refl, ap, ◌∙◌, arith, nat_tests, append_assoc, common_steps, drop_all, slice_get}
+use Rattle.buck_fleet.proofs.Words.{slice_get_cases, slice_get_within, none-some, Some, take_one_more, Posting, harvester_of, Kept, DifferFirstAt, replies_from}
 
 -- the first k that are kept are the harvester's replies among the first i postings
 abbrev pub AreAlike : ℕ → List Kept → List Posting → ℕ → ℕ → Type 0

@@ -1,5 +1,6 @@
 -- a run goes on
-use Rattle.buck_fleet.proofs.Words.{◌≡◌, ℕ, zero, suc, ◌+◌, ◌<◌, List, [], ◌∷◌, ◌++◌, length, take, get_or, map, sym, ap, ◌∙◌, arith, append_assoc, rules, Some, slice_get, map-append, All-append, All-cons, StemParts, take_one_more, Kept, Reply, SeatParts, IsReplyFor, kept_of, harvester_of, HasCut, IsFirstBestCut, stem_cut}
+use Rattle.buck_fleet.proofs.Words.{◌≡◌, ℕ, zero, suc, ◌+◌, ◌<◌, List, [], ◌∷◌, ◌++◌, length, take, get_or, map, sym, ap, ◌∙◌, arith, append_assoc, rules, Some, slice_get, map-append, All-append, All-cons, StemParts, take_one_more, Kept}
+use Rattle.buck_fleet.proofs.Words.{Reply, SeatParts, IsReplyFor, kept_of, harvester_of, HasCut, IsFirstBestCut, stem_cut}
 
 pub got : {A : Type 0} (f : A → StemParts) (xs : List A) (n : ℕ) (x : A) → n < length xs → x ≡ get_or xs n x
     → slice_get (map f xs) n ≡ Some (f x)

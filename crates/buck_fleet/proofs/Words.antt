@@ -1,22 +1,23 @@
 -- The words that the proofs of this crate name, from where each is declared.
 pub use Rattle.buck_dp.proofs.Words.{InstructionParts, rules, add-one, sum_by-cons, append_assoc, drop, drop-cons, StemParts, vec_capacity}
-pub use Rattle.std.proofs.Common.{All, slice_index_or, slice_get, Some, nat_lt, Option, sum_by, Contains, ◌≡◌, ℕ, ◌+◌, ◌≤◌, List, [], ◌∷◌, ◌++◌, arith, sym, ◌∙◌, ◌-◌, ◌<◌, length, get_or, refl, ap, map, zero, suc, ◌==◌, cond, take, ◌≢◌, set, length-set, length-append, inl, inr, append-nil, if◌then◌else◌, None, IfSome}
+pub use Rattle.std.proofs.Common.{All, slice_index_or, slice_get, Some, nat_lt, Option, sum_by, Contains, ◌≡◌, ℕ, ◌+◌, ◌≤◌, List, [], ◌∷◌, ◌++◌, arith, sym, ◌∙◌, ◌-◌, ◌<◌, length, get_or, refl, ap, map, zero, suc, ◌==◌, cond, take, ◌≢◌}
+pub use Rattle.std.proofs.Common.{set, length-set, length-append, inl, inr, append-nil, if◌then◌else◌, None, IfSome}
 pub use Rattle.std.proofs.lemmas.Grind.{common_steps}
-pub use Rattle.buck_book.specs.declared.posting.Posting.{Posting}
-pub use Rattle.buck_book.specs.declared.posting.Posting.TheVariants.{Cut, Demand}
-pub use Rattle.buck_book.specs.Entry.{DemandParts}
-pub use Rattle.buck_book.specs.Plan.{PlanParts, IsPlan}
-pub use Rattle.buck_book.specs.History.{HistoryParts, version_of, in_force}
-pub use Rattle.buck_book.specs.Book.{entry_of, demand_of, IsFirst}
-pub use Rattle.buck_book.proofs.Ends.{ends-append, ends_with_end, take_one_more}
-pub use Rattle.buck_book.specs.declared.posting.Kept.{Kept}
-pub use Rattle.buck_book.specs.Replies.{replies_from, stem_cut, stems_of, stems_at}
+pub use Rattle.buck_book_postings.specs.declared.posting.Posting.{Posting}
+pub use Rattle.buck_book_postings.specs.declared.posting.Posting.TheVariants.{Cut, Demand}
+pub use Rattle.buck_book_postings.specs.Entry.{DemandParts}
+pub use Rattle.buck_book_postings.specs.Plan.{PlanParts, IsPlan}
+pub use Rattle.buck_book_postings.specs.History.{HistoryParts, version_of, in_force}
+pub use Rattle.buck_book_postings.specs.Book.{entry_of, demand_of, IsFirst}
+pub use Rattle.buck_book_postings.proofs.Ends.{ends-append, ends_with_end, take_one_more}
+pub use Rattle.buck_book_postings.specs.declared.posting.Kept.{Kept}
+pub use Rattle.buck_book_postings.specs.Replies.{replies_from, stem_cut, stems_of, stems_at}
 pub use Rattle.buck_fleet.specs.declared.seat.TheConstants.{MOST_SEATS}
 pub use Rattle.buck_fleet.specs.declared.seat.Reply.{Reply}
 pub use Rattle.buck_fleet.specs.declared.seat.DemandReply.{DemandReply}
 pub use Rattle.buck_fleet.specs.Seat.{SeatParts, Keeps, KeepsOne, seen_of, KeepsNothing}
 pub use Rattle.buck_fleet.specs.Reply.{IsReplyFor, IsOfPlan, IsReplyToTargets, kept_of, kept_demand_of}
-pub use Rattle.buck_book.specs.Posting.{harvester_of}
+pub use Rattle.buck_book_postings.specs.Posting.{harvester_of}
 pub use Rattle.buck_fleet.specs.declared.close.CloseFault.{CloseFault}
 pub use Rattle.buck_fleet.specs.Closed.{ClosedParts, IsHandedOut, IsCloseFault, DifferFirstAt, lists_of}
 pub use Rattle.std.proofs.lemmas.List.{get_or_append_left, get_or_push, length_push, get_or-set_other, get_or-set_same, drop_all, map-append, length-map, map-set}

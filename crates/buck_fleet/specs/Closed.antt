@@ -5,13 +5,13 @@ use Rattle.std.specs.List.{sum_by}
 use Rattle.std.specs.declared.vec.Vec.{Vec}
 use Rattle.std.specs.declared.alloc.Global.{Global}
 use Rattle.buck_apt.specs.Instruction.{InstructionParts}
-use Rattle.buck_book.specs.declared.posting.Posting.{Posting}
-use Rattle.buck_book.specs.History.{HistoryParts, IsLawful}
-use Rattle.buck_book.specs.Book.{IsFirst}
-use Rattle.buck_book.specs.Replies.{replies_of}
+use Rattle.buck_book_postings.specs.declared.posting.Posting.{Posting}
+use Rattle.buck_book_postings.specs.History.{HistoryParts, IsLawful}
+use Rattle.buck_book_postings.specs.Book.{IsFirst}
+use Rattle.buck_book_postings.specs.Replies.{replies_of}
 use Rattle.buck_fleet.specs.declared.close.CloseFault.{CloseFault}
 use Rattle.buck_fleet.specs.declared.close.CloseFault.TheVariants.{Instruction, Calls}
-use Rattle.buck_book.specs.declared.posting.Kept.{Kept}
+use Rattle.buck_book_postings.specs.declared.posting.Kept.{Kept}
 use Rattle.buck_fleet.specs.Seat.{SeatParts}
 
 pub record ClosedParts : Type 0 where

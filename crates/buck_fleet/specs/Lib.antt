@@ -7,3 +7,4 @@ pub mod Closed
 pub mod Refused
 pub mod Faults
 pub mod inner
+pub mod world

@@ -1,19 +1,19 @@
 -- Why a fleet isn't opened, and why a plan is given back.
 use Rattle.std.specs.Prelude.{◌≡◌, ◌≢◌, ℕ, ◌<◌, ◌≤◌, ◌⊎◌}
-use Rattle.buck_book.specs.Plan.{PlanParts}
+use Rattle.buck_book_postings.specs.Plan.{PlanParts}
 use Rattle.buck_fleet.specs.declared.open.OpenFault.{OpenFault}
 use Rattle.buck_fleet.specs.declared.open.OpenFault.TheVariants as opening
-use Rattle.buck_book.specs.declared.demand.DemandRefusal.{DemandRefusal}
-use Rattle.buck_book.specs.declared.demand.DemandRefusal.TheVariants as demanding
-use Rattle.buck_book.specs.declared.ready.CutFault.{CutFault}
-use Rattle.buck_book.specs.declared.ready.CutFault.TheVariants as cutting
+use Rattle.buck_book_postings.specs.declared.demand.DemandRefusal.{DemandRefusal}
+use Rattle.buck_book_postings.specs.declared.demand.DemandRefusal.TheVariants as demanding
+use Rattle.buck_book_postings.specs.declared.ready.CutFault.{CutFault}
+use Rattle.buck_book_postings.specs.declared.ready.CutFault.TheVariants as cutting
 use Rattle.buck_fleet.specs.declared.fault.RunFault.{RunFault}
 use Rattle.buck_fleet.specs.declared.fault.RunFault.TheVariants as running
 use Rattle.buck_fleet.specs.declared.fault.RetargetFault.{RetargetFault}
 use Rattle.buck_fleet.specs.declared.fault.RetargetFault.TheVariants as retargeting
 use Rattle.buck_fleet.specs.declared.fault.TryFault.{TryFault}
 use Rattle.buck_fleet.specs.declared.fault.TryFault.TheVariants.{Full, Stale, Memory}
-use Rattle.buck_book.specs.declared.posting.TheConstants.{MOST_POSTINGS}
+use Rattle.buck_book_postings.specs.declared.posting.TheConstants.{MOST_POSTINGS}
 use Rattle.buck_fleet.specs.declared.seat.TheConstants.{MOST_SEATS}
 
 -- a number of seats outside 1 to 64 is refused first, then a capacity outside 1 to 1,000,000

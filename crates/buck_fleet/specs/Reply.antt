@@ -2,10 +2,10 @@
 use Rattle.std.specs.Prelude.{◌≡◌, ℕ, ◌+◌, ◌≤◌, List}
 use Rattle.buck_stem.specs.Stem.{StemParts}
 use Rattle.buck_value.specs.Sheet.{SheetParts}
-use Rattle.buck_book.specs.declared.posting.Posting.TheVariants as posting
-use Rattle.buck_book.specs.Entry.{EntryParts}
-use Rattle.buck_book.specs.Plan.{PlanParts, IsPlan, plan_of}
-use Rattle.buck_book.specs.declared.posting.Kept.{Kept}
+use Rattle.buck_book_postings.specs.declared.posting.Posting.TheVariants as posting
+use Rattle.buck_book_postings.specs.Entry.{EntryParts}
+use Rattle.buck_book_postings.specs.Plan.{PlanParts, IsPlan, plan_of}
+use Rattle.buck_book_postings.specs.declared.posting.Kept.{Kept}
 use Rattle.buck_fleet.specs.declared.seat.Path.{Path}
 use Rattle.buck_fleet.specs.declared.seat.Path.TheVariants.{Optimistic, Locked}
 use Rattle.buck_fleet.specs.declared.seat.Reply.{Reply}

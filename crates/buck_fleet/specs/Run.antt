@@ -5,12 +5,12 @@ use Rattle.std.specs.declared.vec.Vec.{Vec}
 use Rattle.std.specs.declared.alloc.Global.{Global}
 use Rattle.buck_stem.specs.declared.stem.Stem.{Stem}
 use Rattle.buck_stem.specs.Stem.{StemParts}
-use Rattle.buck_book.specs.declared.posting.Posting.{Posting}
-use Rattle.buck_book.specs.declared.posting.Posting.TheVariants.{Cut, Demand}
-use Rattle.buck_book.specs.Posting.{harvester_of}
-use Rattle.buck_book.specs.Replies.{stem_cut, stems_at}
+use Rattle.buck_book_postings.specs.declared.posting.Posting.{Posting}
+use Rattle.buck_book_postings.specs.declared.posting.Posting.TheVariants.{Cut, Demand}
+use Rattle.buck_book_postings.specs.Posting.{harvester_of}
+use Rattle.buck_book_postings.specs.Replies.{stem_cut, stems_at}
 use Rattle.buck_fleet.specs.declared.fault.RunFault.{RunFault}
-use Rattle.buck_book.specs.declared.posting.Kept.{Kept}
+use Rattle.buck_book_postings.specs.declared.posting.Kept.{Kept}
 use Rattle.buck_fleet.specs.Seat.{SeatParts, Keeps}
 use Rattle.buck_fleet.specs.Fleet.{FleetParts, IsSeatIn}
 use Rattle.buck_fleet.specs.Crew.{IsCrew, parts_of}

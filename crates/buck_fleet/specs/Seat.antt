@@ -3,7 +3,7 @@ use Rattle.std.specs.Prelude.{◌≡◌, ℕ, ◌≤◌, List, [], ◌∷◌, �
 use Rattle.buck_board.specs.declared.seat.BoardSeat.{BoardSeat}
 use Rattle.buck_board.specs.Board.{seen_by}
 use Rattle.buck_fleet.specs.declared.fault.RunFault.{RunFault}
-use Rattle.buck_book.specs.declared.posting.Kept.{Kept}
+use Rattle.buck_book_postings.specs.declared.posting.Kept.{Kept}
 
 pub record SeatParts : Type 0 where
   pub harvester : ℕ

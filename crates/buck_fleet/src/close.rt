@@ -1,23 +1,23 @@
 //! How a fleet is closed, and what it hands out.
 ghost use Rattle.std.specs.Prelude.{◌≡◌, ◌≢◌, ℕ, ◌-◌, ◌<◌, ◌≤◌, ◌==◌, ◌↔◌, [], length, map, All, IsTrue, IfOk, IfErr, IfNone, IfSome, Some, slice_get, slice_index_or};
 ghost use Rattle.std.specs.List.{sum_by};
-ghost use Rattle.buck_book.specs.Posting.{harvester_of, targets_of};
-ghost use Rattle.buck_book.specs.Targets.{AreTargets};
-ghost use Rattle.buck_book.specs.Counts.{AreClassCounts};
-ghost use Rattle.buck_book.specs.History.{IsLawful, in_force};
-ghost use Rattle.buck_book.specs.Book.{sheets_from};
+ghost use Rattle.buck_book_postings.specs.Posting.{harvester_of, targets_of};
+ghost use Rattle.buck_book_postings.specs.Targets.{AreTargets};
+ghost use Rattle.buck_book_postings.specs.Counts.{AreClassCounts};
+ghost use Rattle.buck_book_postings.specs.History.{IsLawful, in_force};
+ghost use Rattle.buck_book_postings.specs.Book.{sheets_from};
 ghost use Rattle.buck_fleet.specs.Crew.{IsCrew, parts_of};
-ghost use Rattle.buck_book.specs.Replies.{replies_from, replies_of};
+ghost use Rattle.buck_book_postings.specs.Replies.{replies_from, replies_of};
 ghost use Rattle.buck_fleet.specs.Closed.{ClosedParts, kept_by, lists_of, IsHandedOut, IsOneHistory, IsCloseFault, DifferFirstAt};
 ghost use Rattle.buck_fleet.specs.Faults.{close_numbers};
-ghost use Rattle.buck_book.specs.declared.posting.TheConstants.{MOST_POSTINGS};
+ghost use Rattle.buck_book_postings.specs.declared.posting.TheConstants.{MOST_POSTINGS};
 ghost use Rattle.buck_fleet.specs.declared.seat.TheConstants.{MOST_SEATS};
 
 use crate::desk::Desk;
 use crate::fleet::Fleet;
 use crate::seat::Seat;
 use buck_apt::Instruction;
-use buck_book::{Kept, Parts, Posting};
+use buck_book_postings::{Kept, Parts, Posting};
 use buck_record::{FaultNumbers, Numbered};
 use buck_value::Sheet;
 use std::marker::Model;

@@ -9,7 +9,7 @@ use crate::fault::TryFault;
 use crate::fleet::Fleet;
 use crate::gate::Gate;
 use crate::seat::{MOST_ATTEMPTS, Path, Reply, Seat};
-use buck_book::CutFault;
+use buck_book_postings::CutFault;
 use buck_rule::Standing;
 use buck_stem::Stem;
 use std::alloc::Global;

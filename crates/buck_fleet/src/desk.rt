@@ -2,16 +2,16 @@
 ghost use Rattle.std.specs.Prelude.{◌≡◌, ◌≢◌, ℕ, ◌+◌, ◌<◌, ◌≤◌, ◌++◌, ◌∷◌, [], Some, length, IfOk, IfErr, OnOk, vec_len, vec_capacity};
 ghost use Rattle.buck_rule.specs.Stored.{AllAnswer};
 ghost use Rattle.buck_board.specs.Board.{IsSeatOf, seen_by};
-ghost use Rattle.buck_book.specs.Plan.{IsPlan};
-ghost use Rattle.buck_book.specs.Book.{IsReadyFor};
-ghost use Rattle.buck_book.specs.History.{in_force};
-ghost use Rattle.buck_book.specs.Refused.{IsRefusal, IsRefusalInForce};
+ghost use Rattle.buck_book_postings.specs.Plan.{IsPlan};
+ghost use Rattle.buck_book_postings.specs.Book.{IsReadyFor};
+ghost use Rattle.buck_book_postings.specs.History.{in_force};
+ghost use Rattle.buck_book_postings.specs.Refused.{IsRefusal, IsRefusalInForce};
 ghost use Rattle.buck_fleet.specs.Reply.{IsReplyFor, IsOfPlan, IsReplyToTargets};
 ghost use Rattle.buck_fleet.specs.inner.Shown.{IsShown, GrowsAsShown};
 
 use crate::seat::{DemandReply, Own, Path, Reply, Seat};
 use buck_board::{Board, PutUp};
-use buck_book::{Book, CutFault, DemandRefusal, Kept, Plan, Posting, Ready, Refusal};
+use buck_book_postings::{Book, CutFault, DemandRefusal, Kept, Plan, Posting, Ready, Refusal};
 use buck_dp::Cutting;
 use buck_record::Memory;
 use buck_rule::Standing;

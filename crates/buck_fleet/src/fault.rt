@@ -2,7 +2,7 @@
 ghost use Rattle.std.specs.Prelude.{◌≡◌};
 ghost use Rattle.buck_fleet.specs.Refused.{stop_of, retarget_fault_of};
 
-use buck_book::{CutFault, DemandRefusal, Plan, TargetsFault};
+use buck_book_postings::{CutFault, DemandRefusal, Plan, TargetsFault};
 use buck_value::Sheet;
 use std::fmt::{self, Debug, Formatter};
 use std::sync::Arc;

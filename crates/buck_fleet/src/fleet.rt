@@ -12,7 +12,7 @@ use crate::fault::{RetargetFault, TryFault};
 use crate::seat::{DemandReply, Path, Reply, Seat};
 use buck_apt::Instruction;
 use buck_board::{Board, Snapshot};
-use buck_book::{Kept, Plan, Refusal};
+use buck_book_postings::{Kept, Plan, Refusal};
 use buck_rule::Standing;
 use std::alloc::Global;
 use std::hint::spin_loop;

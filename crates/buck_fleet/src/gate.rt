@@ -1,5 +1,5 @@
 //! Gates: observers of plans while a fleet cuts.
-use buck_book::Plan;
+use buck_book_postings::Plan;
 use std::sync::Wait;
 
 /// Observes each plan that a call made without the lock. It may wait, because nobody holds the lock then.

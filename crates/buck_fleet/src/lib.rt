@@ -13,7 +13,8 @@ mod run;
 mod seat;
 
 pub use buck_board::Snapshot;
-pub use buck_book::{CutFault, Kept};
+pub use buck_book_postings::{CutFault, Kept};
+pub use buck_fleet_world as world;
 pub use close::{CloseFault, Closed};
 pub use fault::{RetargetFault, RunFault, TryFault};
 pub use fleet::Fleet;

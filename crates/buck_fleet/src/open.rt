@@ -12,7 +12,7 @@ use crate::fleet::Fleet;
 use crate::seat::{MOST_SEATS, Seat};
 use buck_apt::Instruction;
 use buck_board::{Board, BoardSeat};
-use buck_book::{Book, Kept, MOST_POSTINGS};
+use buck_book_postings::{Book, Kept, MOST_POSTINGS};
 use buck_record::Memory;
 use buck_rule::{Rule, Standing};
 use std::alloc::{AllocError, Global};

@@ -4,7 +4,7 @@ ghost use Rattle.buck_rule.specs.Stored.{AllAnswer};
 ghost use Rattle.buck_fleet.specs.Seat.{SeatParts};
 ghost use Rattle.buck_fleet.specs.Fleet.{IsSeatIn};
 ghost use Rattle.buck_fleet.specs.Run.{HasCut, HasRun, HaveRun, IsFirstStop};
-ghost use Rattle.buck_book.specs.Replies.{stems_of, stems_at};
+ghost use Rattle.buck_book_postings.specs.Replies.{stems_of, stems_at};
 
 use crate::fault::RunFault;
 use crate::fleet::Fleet;

@@ -6,7 +6,7 @@ ghost use Rattle.buck_fleet.specs.declared.seat.TheConstants.{MOST_SEATS};
 
 use crate::fault::RunFault;
 use buck_board::BoardSeat;
-use buck_book::{Demand, Entry, Kept, Plan};
+use buck_book_postings::{Demand, Entry, Kept, Plan};
 use buck_dp::Planner;
 use buck_record::Memory;
 use buck_stem::Stem;

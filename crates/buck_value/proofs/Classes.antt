@@ -1,5 +1,6 @@
 -- Which logs an assortment allows, as the code tests it, and their classes.
-use Rattle.std.proofs.Common.{◌≡◌, ℕ, ◌+◌, ◌*◌, ◌/◌, ◌%◌, add-mul, ◌<◌, ◌≤◌, ◌==◌, List, Contains, Option, Some, None, IsTrue, true, false, true≢false, length, get_or, slice_get, unwrap_or, position, refl, sym, ◌∙◌, ap, subst, inl, inr, arith, eqb-true, eq-eqb, cond, nat_lt}
+use Rattle.std.proofs.Common.{◌≡◌, ℕ, ◌+◌, ◌*◌, ◌/◌, ◌%◌, add-mul, ◌<◌, ◌≤◌, ◌==◌, List, Contains, Option, Some, None, IsTrue, true, false, true≢false, length, get_or, slice_get, unwrap_or, position, refl, sym, ◌∙◌, ap, subst, inl, inr}
+use Rattle.std.proofs.Common.{arith, eqb-true, eq-eqb, cond, nat_lt}
 use Rattle.std.proofs.lemmas.Nat.{div-add-mod'}
 use Rattle.std.proofs.Math.Nat.{mul-mod_left}
 use Rattle.std.proofs.lemmas.Option.{none-some, slice_get_within, get_or_from_slice_get}

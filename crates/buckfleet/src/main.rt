@@ -10,8 +10,8 @@
 //! docs/FORMATS.md for the files and the texts, docs/FAULTS.md for the fault lines.
 #![tactic(auto)]
 
-use buck_command::{KnownFiles, Place, Screen, Streams, run, say_help};
-use buck_engine::{Desk, Disk, EngineFault, conclude};
+use buckfleet_command::{KnownFiles, Place, Screen, Streams, run, say_help};
+use buckfleet_engine::{Desk, Disk, EngineFault, conclude};
 use std::io::{BufReader, ErrorKind, IsTerminal};
 use std::os::fd::{AsRawFd, IntoRawFd};
 use std::process::ExitCode;

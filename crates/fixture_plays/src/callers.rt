@@ -1,7 +1,7 @@
 //! What callers of a fleet write: that they meet its conditions by what it hands out is proved.
 ghost use Rattle.std.specs.Prelude.{◌≡◌, ◌<◌, ◌≤◌, length, IfOk};
 ghost use Rattle.buck_rule.specs.Stored.{AllAnswer};
-ghost use Rattle.buck_book.specs.History.{IsLawful};
+ghost use Rattle.buck_book_postings.specs.History.{IsLawful};
 ghost use Rattle.buck_fleet.specs.Crew.{IsCrew, parts_of};
 
 use buck_apt::Instruction;

@@ -2,7 +2,7 @@
 ghost use Rattle.buck_rule.specs.Stored.{AllAnswer};
 
 use crate::callers::{DayFault, Evening, till_evening};
-use buck_book::{Demand, Entry, Posting};
+use buck_book_postings::{Demand, Entry, Posting};
 use buck_fleet::{Closed, Gate, RunFault};
 use buck_rule::{Rule, Standing, steady};
 use buck_stem::Stem;

@@ -2,14 +2,14 @@
 //! by what it hands out is proved.
 ghost use Rattle.std.specs.Prelude.{◌≡◌, ℕ, ◌<◌, ◌≤◌, length, All, IfOk, slice_index_or};
 ghost use Rattle.buck_rule.specs.Stored.{AllAnswer};
-ghost use Rattle.buck_book.specs.History.{IsLawful};
+ghost use Rattle.buck_book_postings.specs.History.{IsLawful};
 ghost use Rattle.buck_fleet.specs.Seat.{SeatParts};
 ghost use Rattle.buck_fleet.specs.Fleet.{IsSeatIn};
 ghost use Rattle.buck_fleet.specs.Crew.{IsCrew, parts_of};
 
 use crate::stage::{Stage, Told};
 use buck_apt::Instruction;
-use buck_book::Plan;
+use buck_book_postings::Plan;
 use buck_fleet::{CloseFault, Closed, CutFault, Fleet, OpenFault, RetargetFault, Seat, TryFault};
 use buck_rule::{Rule, Standing};
 use buck_stem::Stem;

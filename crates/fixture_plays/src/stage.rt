@@ -1,5 +1,5 @@
 //! A stage on which harvesters meet: a gate that holds harvester 1, and the answers to all calls.
-use buck_book::{Plan, TargetsFault};
+use buck_book_postings::{Plan, TargetsFault};
 use buck_fleet::{Gate, Path};
 use buck_value::Sheet;
 use std::alloc::{AllocError, Global};

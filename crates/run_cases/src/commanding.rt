@@ -3,8 +3,8 @@ ghost use Rattle.std.specs.Prelude.{⊤};
 
 use crate::case::{Inputs, Named};
 use crate::running::Outcome;
-use buck_command::{Known, Place, Screen, Streams, Trouble, run};
-use buck_engine::{Make, Open};
+use buckfleet_command::{Known, Place, Screen, Streams, Trouble, run};
+use buckfleet_engine::{Make, Open};
 use std::alloc::Global;
 use std::cell::Cell;
 use std::io;

@@ -3,10 +3,10 @@
 //! the line of that fault stands on standard error: `apt fault 9 3050`.
 #![tactic(auto)]
 
-use buck_engine::{
+use buck_rule::NamedRule;
+use buckfleet_engine::{
     Desk, Disk, FleetTask, Nobody, Order, Settings, Task, conclude, serve, serve_fleet,
 };
-use buck_rule::NamedRule;
 use std::alloc::{AllocError, Global};
 use std::io;
 use std::process::ExitCode;

@@ -4,7 +4,7 @@ ghost use Rattle.std.specs.Prelude.{◌≡◌, ◌<◌, ◌≤◌, IfOk, ◌∷�
 ghost use Rattle.buck_rule.specs.Stored.{Answers};
 
 use buck_apt::Instruction;
-use buck_book::{Book, Demand, DemandRefusal, Entry, Plan, Posting, Refusal};
+use buck_book_postings::{Book, Demand, DemandRefusal, Entry, Plan, Posting, Refusal};
 use buck_rule::{Rule, Standing};
 use buck_stem::Stem;
 use std::alloc::Global;

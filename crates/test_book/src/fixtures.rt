@@ -3,7 +3,7 @@ ghost use Rattle.std.specs.Prelude.{◌≡◌, IfOk};
 ghost use Rattle.buck_rule.specs.Stored.{Answers};
 
 use crate::callers::day;
-use buck_book::{Book, Demand, Entry, Plan, Posting};
+use buck_book_postings::{Book, Demand, Entry, Plan, Posting};
 use buck_rule::{Rule, Standing};
 use buck_stem::Stem;
 use buck_value::Log;

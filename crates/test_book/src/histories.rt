@@ -4,7 +4,7 @@ ghost use Rattle.buck_rule.specs.Stored.{Answers};
 
 use crate::callers::{cut_times, demand};
 use crate::fixtures::*;
-use buck_book::{Book, Refusal};
+use buck_book_postings::{Book, Refusal};
 use buck_rule::{Rule, Standing, step};
 use buck_stem::Stem;
 use std::sync::Arc;

@@ -3,8 +3,8 @@
 //! made is refused for nothing else is its contract.
 use crate::callers::demand;
 use crate::fixtures::*;
-use buck_book::{Book, Demand, Posting};
-use buck_journal::{ReplayFault, journal_text, read_journal, replay};
+use buck_book_journal::{ReplayFault, journal_text, read_journal, replay};
+use buck_book_postings::{Book, Demand, Posting};
 use buck_rule::{Rule, Standing, step};
 use fixture_samples::{SHORT_JOURNAL, edited, saw_instruction, two_stem_journal};
 use std::test::Fail;

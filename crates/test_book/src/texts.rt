@@ -1,6 +1,6 @@
 //! Texts of faults.
 use crate::fixtures::saw_day;
-use buck_book::{DemandRefusal, Refusal, TargetsFault};
+use buck_book_postings::{DemandRefusal, Refusal, TargetsFault};
 use buck_rule::{Rule, Standing, step};
 use std::test::Fail;
 

@@ -1,8 +1,8 @@
 //! Files, streams and a screen in memory.
 ghost use Rattle.std.specs.Prelude.{⊤};
 
-use buck_command::{Known, Place, Screen, Streams, Trouble, run};
-use buck_engine::{Make, Open};
+use buckfleet_command::{Known, Place, Screen, Streams, Trouble, run};
+use buckfleet_engine::{Make, Open};
 use std::alloc::Global;
 use std::cell::Cell;
 use std::io;

@@ -1,6 +1,6 @@
 //! Cuttings that someone names: worths and reasons worked out by hand.
 use crate::fixtures::{base_of, log};
-use buck_own::{Judged, Reason, judge};
+use buck_dp_own_logs::{Judged, Reason, judge};
 use buck_stem::Stem;
 use buck_value::Sheet;
 use fixture_samples::{SAW_AND_POLE, edited, stem_of};

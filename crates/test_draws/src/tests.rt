@@ -1,5 +1,5 @@
 //! What a seed gives.
-use buck_draws::{below, shuffle};
+use buckfleet_trial_draws::{below, shuffle};
 use rand_core::SeedableRng;
 use rand_core::utils::NextWord;
 use rand_xoshiro::SplitMix64;

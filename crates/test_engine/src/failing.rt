@@ -3,8 +3,8 @@ ghost use Rattle.std.specs.Prelude.{◌<◌};
 
 use crate::streams::{Sink, Source, Trouble};
 use crate::work::{ENGINES, Ending, Engine};
-use buck_engine::{EngineFault, run_fleet_files, run_in_turn};
 use buck_rule::{Rule, Standing, step};
+use buckfleet_engine::{EngineFault, run_fleet_files, run_in_turn};
 use std::alloc::Global;
 use std::sync::Wait;
 use std::test::Fail;

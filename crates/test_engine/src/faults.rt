@@ -1,10 +1,10 @@
 //! The line, the exit status and the text of each fault.
 use crate::streams::{Sink, Trouble};
 use buck_apt::AptFault;
-use buck_engine::{CheckFault, EngineFault, TextFault, status, write_fault};
+use buck_book_journal::{JournalFault, ReplayFault};
 use buck_fleet::CloseFault;
-use buck_journal::{JournalFault, ReplayFault};
 use buck_stem::StmFault;
+use buckfleet_engine::{CheckFault, EngineFault, TextFault, status, write_fault};
 use std::alloc::{AllocError, Global};
 use std::test::Fail;
 

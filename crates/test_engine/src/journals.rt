@@ -4,11 +4,11 @@ ghost use Rattle.std.specs.Prelude.{⊤};
 
 use crate::parts::ROOM;
 use crate::work::apt_and_stm;
-use buck_engine::{
+use buck_book_journal::ReplayFault;
+use buckfleet_engine::{
     CrossCheck, EngineFault, Files, Nobody, Open, Settings, SeveralThreads, Shown, Table, ViewTask,
     run_check, run_check_with, run_table, run_view, serve_view,
 };
-use buck_journal::ReplayFault;
 use std::alloc::Global;
 use std::test::Fail;
 use std::thread::Threads;

@@ -1,7 +1,7 @@
 //! Files at the limit of length, and an input without end.
 use crate::streams::Blanks;
 use buck_apt::AptFault;
-use buck_engine::{EngineFault, run_bare, run_buck};
+use buckfleet_engine::{EngineFault, run_bare, run_buck};
 use std::alloc::Global;
 
 /// The most bytes that a file may have.

@@ -3,8 +3,8 @@ ghost use Rattle.std.specs.Prelude.{⊤};
 
 use crate::streams::Sink;
 use crate::work::apt_and_stm;
-use buck_engine::{FleetTask, Make, Onlooker, Open, Order, Settings, serve_fleet};
 use buck_rule::NamedRule;
+use buckfleet_engine::{FleetTask, Make, Onlooker, Open, Order, Settings, serve_fleet};
 use std::sync::atomic::{AtomicBool, AtomicU64, Ordering};
 use std::test::Fail;
 use std::thread;

@@ -1,6 +1,6 @@
 //! Bucking in parts: in whatever number of threads stems are cut, what is written is what one thread writes.
 use crate::work::apt_and_stm;
-use buck_engine::{EngineFault, run_buck, run_buck_in_parts};
+use buckfleet_engine::{EngineFault, run_buck, run_buck_in_parts};
 use std::alloc::Global;
 use std::test::Fail;
 use std::thread::Threads;

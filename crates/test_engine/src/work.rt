@@ -2,11 +2,11 @@
 ghost use Rattle.std.specs.Prelude.{◌≤◌};
 
 use crate::streams::{Sink, Source};
-use buck_engine::{
+use buck_rule::{NamedRule, Rule, Standing, step};
+use buckfleet_engine::{
     CrossCheck, EngineFault, OneThread, Settings, run_bare, run_buck, run_buck_in_parts, run_check,
     run_check_with, run_fleet_files, run_in_turn,
 };
-use buck_rule::{NamedRule, Rule, Standing, step};
 use std::alloc::Global;
 use std::sync::Wait;
 use std::thread::Threads;

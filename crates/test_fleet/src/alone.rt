@@ -1,5 +1,5 @@
 //! Plays of one harvester alone: the answer to each call, and the postings and sheets at the end.
-use buck_book::TargetsFault;
+use buck_book_postings::TargetsFault;
 use buck_fleet::{Closed, Path};
 use fixture_plays::fixtures::*;
 use fixture_plays::play::Do;

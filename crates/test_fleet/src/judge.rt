@@ -1,7 +1,7 @@
 //! A plain slow judge of a history of the saw instruction, by the step rule and targets that are all 1. Each stem has
 //! one diameter and is shorter than 9,000 mm. It has arithmetic of its own, counts the whole list at each entry, and
 //! finds what a stem is worth by trying all lists of logs.
-use buck_book::{Entry, Posting};
+use buck_book_postings::{Entry, Posting};
 use buck_fleet::Closed;
 use buck_value::Sheet;
 

@@ -1,5 +1,5 @@
 //! The texts of a fleet's faults.
-use buck_book::{Plan, TargetsFault};
+use buck_book_postings::{Plan, TargetsFault};
 use buck_fleet::{CloseFault, CutFault, OpenFault, RetargetFault, RunFault, TryFault};
 use buck_value::Sheet;
 use fixture_samples::{saw_instruction, uniform_stem};

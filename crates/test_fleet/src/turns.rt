@@ -1,7 +1,7 @@
 //! Harvesters that take turns, with lists of several lengths.
-use buck_book::{Book, Posting};
+use buck_book_postings::{Book, Posting};
+use buck_fleet_round_robin::cut_in_turn;
 use buck_rule::{Rule, Standing, step};
-use buck_turn::cut_in_turn;
 use fixture_plays::fixtures::list_of;
 use fixture_samples::saw_instruction;
 use std::alloc::Global;

@@ -2,9 +2,9 @@
 ghost use Rattle.std.specs.Prelude.{◌≡◌};
 ghost use Rattle.buck_rule.specs.Stored.{Answers};
 
+use buck_fleet_world::{Event, Memory, Stage, StepFault, World};
 use buck_rule::Standing;
 use buck_stem::Stem;
-use buck_world::{Event, Memory, Stage, StepFault, World};
 use fixture_samples::uniform_stem;
 use std::sync::Arc;
 use std::test::Fail;

@@ -3,8 +3,8 @@ ghost use Rattle.std.specs.Prelude.{◌≡◌, IfOk};
 ghost use Rattle.buck_rule.specs.Stored.{Answers};
 
 use crate::fixtures::*;
+use buck_fleet_world::{Memory, World};
 use buck_rule::{Rule, Standing, step};
-use buck_world::{Memory, World};
 use fixture_samples::saw_instruction;
 use std::test::Fail;
 

@@ -1,6 +1,6 @@
 //! A plain second writing of the table of events, over numbers alone.
 use crate::fixtures::{Do, FULL, NO, OK, Place};
-use buck_world::StepFault;
+use buck_fleet_world::StepFault;
 
 /// What one harvester is at.
 #[derive(Clone, Copy)]

@@ -2,7 +2,7 @@
 use crate::fixtures::*;
 use crate::plain::{does, opened};
 use crate::search::{Shape, after_run, shape_of};
-use buck_world::StepFault;
+use buck_fleet_world::StepFault;
 use std::test::Fail;
 
 /// Harvester 2's plan is added while harvester 1 holds one of the same version, which is then stale. Harvester 1 reads the

@@ -1,6 +1,6 @@
 //! The texts of a world's faults.
-use buck_book::TargetsFault;
-use buck_world::StepFault;
+use buck_book_postings::TargetsFault;
+use buck_fleet_world::StepFault;
 use std::test::Fail;
 
 /// Each fault and its text.

@@ -1,11 +1,11 @@
 //! Wrong answers about a cutting that someone names.
 ghost use Rattle.std.specs.Prelude.{◌≡◌, ◌<◌, [], ◌∷◌};
 ghost use Rattle.buck_value.specs.Allowed.{IsAllowed, end_of, worth_of};
-ghost use Rattle.buck_own.specs.declared.reason.Reason.TheVariants.{Species};
-ghost use Rattle.buck_own.specs.Reasons.{Applies};
+ghost use Rattle.buck_dp_own_logs.specs.declared.reason.Reason.TheVariants.{Species};
+ghost use Rattle.buck_dp_own_logs.specs.Reasons.{Applies};
 
 use buck_apt::Instruction;
-use buck_own::{Judged, Reason, judge, reason_of};
+use buck_dp_own_logs::{Judged, Reason, judge, reason_of};
 use buck_stem::Stem;
 use buck_value::{Log, Sheet};
 

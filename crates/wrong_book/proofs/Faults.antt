@@ -3,13 +3,13 @@ use Rattle.std.proofs.Common.{◌≡◌, ℕ, ◌<◌, ◌≤◌, inl, inr, List
 use Rattle.std.proofs.lemmas.Bool.{cases_lt}
 use Rattle.buck_value.specs.declared.log.Log.{Log}
 use Rattle.buck_dp.specs.Best.{IsAdmissible, cutting_worth}
-use Rattle.buck_book.specs.declared.posting.Posting.{Posting}
-use Rattle.buck_book.specs.declared.posting.Posting.TheVariants.{Cut, Demand}
-use Rattle.buck_book.specs.Entry.{EntryParts}
-use Rattle.buck_book.specs.History.{HistoryParts, sheet_at}
-use Rattle.buck_journal.specs.declared.judging.fault.ReplayFault.{ReplayFault}
-use Rattle.buck_journal.specs.declared.judging.fault.ReplayFault.TheVariants.{Numbering, Outvalued}
-use Rattle.buck_journal.specs.judging.Replay.{IsFaultAt, IsFirstFault, IsMet, IsNumbered}
+use Rattle.buck_book_postings.specs.declared.posting.Posting.{Posting}
+use Rattle.buck_book_postings.specs.declared.posting.Posting.TheVariants.{Cut, Demand}
+use Rattle.buck_book_postings.specs.Entry.{EntryParts}
+use Rattle.buck_book_postings.specs.History.{HistoryParts, sheet_at}
+use Rattle.buck_book_journal.specs.declared.judging.fault.ReplayFault.{ReplayFault}
+use Rattle.buck_book_journal.specs.declared.judging.fault.ReplayFault.TheVariants.{Numbering, Outvalued}
+use Rattle.buck_book_journal.specs.judging.Replay.{IsFaultAt, IsFirstFault, IsMet, IsNumbered}
 
 -- a fault says its own place
 place_of : (h : HistoryParts) (k at : ℕ) (x : Posting) → IsFaultAt h k x (Outvalued at) → at ≡ k

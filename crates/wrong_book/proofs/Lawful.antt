@@ -1,10 +1,10 @@
 -- What a lawful history of one or two postings is, and the first fault of one that isn't.
 use Rattle.std.proofs.Common.{◌≡◌, ℕ, List, [], ◌∷◌, refl, subst}
 use Rattle.buck_apt.specs.Instruction.{InstructionParts}
-use Rattle.buck_book.specs.declared.posting.Posting.{Posting}
-use Rattle.buck_book.specs.declared.posting.Posting.TheVariants.{Demand}
-use Rattle.buck_book.specs.Entry.{DemandParts}
-use Rattle.buck_book.specs.History.{HistoryParts, IsLawful, Follows, PricesMeet, prices_at}
+use Rattle.buck_book_postings.specs.declared.posting.Posting.{Posting}
+use Rattle.buck_book_postings.specs.declared.posting.Posting.TheVariants.{Demand}
+use Rattle.buck_book_postings.specs.Entry.{DemandParts}
+use Rattle.buck_book_postings.specs.History.{HistoryParts, IsLawful, Follows, PricesMeet, prices_at}
 
 abbrev pub made : InstructionParts → List (List ℕ) → List Posting → HistoryParts
 made i sheets ps = record { instruction = i; sheets = sheets; postings = ps }

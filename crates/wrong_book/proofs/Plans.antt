@@ -1,11 +1,11 @@
 -- What the first of the best isn't.
 use Rattle.std.proofs.Common.{◌≡◌, ◌<◌, List, [], ◌∷◌, Option, None, Some, refl, subst, arith, rules}
 use Rattle.buck_apt.specs.Instruction.{InstructionParts}
-use Rattle.buck_book.specs.declared.posting.Posting.{Posting}
-use Rattle.buck_book.specs.declared.posting.Posting.TheVariants.{Cut, Demand}
-use Rattle.buck_book.specs.Entry.{EntryParts, DemandParts}
-use Rattle.buck_book.specs.History.{HistoryParts, IsEnd}
-use Rattle.buck_book.specs.Book.{IsNext}
+use Rattle.buck_book_postings.specs.declared.posting.Posting.{Posting}
+use Rattle.buck_book_postings.specs.declared.posting.Posting.TheVariants.{Cut, Demand}
+use Rattle.buck_book_postings.specs.Entry.{EntryParts, DemandParts}
+use Rattle.buck_book_postings.specs.History.{HistoryParts, IsEnd}
+use Rattle.buck_book_postings.specs.Book.{IsNext}
 use Rattle.buck_stem.specs.Stem.{StemParts}
 use Rattle.buck_value.specs.declared.log.Log.{Log}
 use Rattle.buck_value.specs.Sheet.{SheetParts}

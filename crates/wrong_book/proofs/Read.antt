@@ -5,10 +5,10 @@ use Rattle.std.specs.Result.{is_ok}
 use Rattle.buck_record.specs.Reading.{each_from}
 use Rattle.buck_record.specs.bytes.Record.{items_of, item_of, numbers_of, number_at_most, number_of}
 use Rattle.buck_record.specs.bytes.White.{trim_start, trim_end, first_word, after_word, words}
-use Rattle.buck_book.specs.declared.posting.Posting.{Posting}
-use Rattle.buck_book.specs.declared.posting.Posting.TheVariants.{Demand}
-use Rattle.buck_journal.specs.declared.reading.fault.JournalFault.TheVariants.{NotJournal, Head, Shape, Digits, Count, Range}
-use Rattle.buck_journal.specs.reading.Journal.{journal_of, journal_in, sheets_from, postings_from, posting_at, cut_at, demand_at, call_at, stem_at, item_at, worth_at, numbers_at}
+use Rattle.buck_book_postings.specs.declared.posting.Posting.{Posting}
+use Rattle.buck_book_postings.specs.declared.posting.Posting.TheVariants.{Demand}
+use Rattle.buck_book_journal.specs.declared.reading.fault.JournalFault.TheVariants.{NotJournal, Head, Shape, Digits, Count, Range}
+use Rattle.buck_book_journal.specs.reading.Journal.{journal_of, journal_in, sheets_from, postings_from, posting_at, cut_at, demand_at, call_at, stem_at, item_at, worth_at, numbers_at}
 
 pub other_file_read : journal_of (codes "1 2 APT~") ≡ Err NotJournal
 unfolding journal_of journal_in sheets_from postings_from posting_at cut_at demand_at call_at stem_at item_at worth_at

@@ -1,8 +1,8 @@
 -- What the texts are.
 use Rattle.std.proofs.Common.{◌≡◌, [], ◌∷◌, refl, codes}
 use Rattle.std.specs.Fmt.{digits}
-use Rattle.buck_book.specs.declared.posting.Posting.TheVariants.{Cut, Demand}
-use Rattle.buck_journal.specs.Written.{journal_text, cut_text, demand_text}
+use Rattle.buck_book_postings.specs.declared.posting.Posting.TheVariants.{Cut, Demand}
+use Rattle.buck_book_journal.specs.Written.{journal_text, cut_text, demand_text}
 use Rattle.wrong_book.specs.Texts.{zoned_cut, second_demand}
 
 pub no_postings : journal_text [] [] ≡ codes "1 2 JRN~\n"

@@ -3,12 +3,12 @@ use Rattle.std.specs.Prelude.{◌≡◌, ℕ, List}
 use Rattle.std.specs.Fn.{FnReturnsAt}
 use Rattle.buck_apt.specs.declared.class.Class.{Class}
 use Rattle.buck_apt.specs.Instruction.{InstructionParts, IsClass, index_of}
-use Rattle.buck_book.specs.declared.posting.Posting.{Posting}
-use Rattle.buck_book.specs.Plan.{PlanParts}
-use Rattle.buck_book.specs.History.{standing_of}
-use Rattle.buck_book.specs.Pricing.{Calls}
-use Rattle.buck_book.specs.Walk.{WalkParts, passed, MeetsAfter}
-use Rattle.buck_book.specs.Book.{BookParts, postings_with, postings_with_demand}
+use Rattle.buck_book_postings.specs.declared.posting.Posting.{Posting}
+use Rattle.buck_book_postings.specs.Plan.{PlanParts}
+use Rattle.buck_book_postings.specs.History.{standing_of}
+use Rattle.buck_book_postings.specs.Pricing.{Calls}
+use Rattle.buck_book_postings.specs.Walk.{WalkParts, passed, MeetsAfter}
+use Rattle.buck_book_postings.specs.Book.{BookParts, postings_with, postings_with_demand}
 
 -- a closure doesn't answer this price to how a class stands after some postings
 abbrev pub IsNoAnswer : {F : Type 0} → Calls F → F → InstructionParts → Class → List Posting → ℕ → Type 0

@@ -1,6 +1,6 @@
 -- The postings whose texts the callers look at.
 use Rattle.std.specs.Prelude.{[], ◌∷◌}
-use Rattle.buck_book.specs.Entry.{EntryParts, DemandParts}
+use Rattle.buck_book_postings.specs.Entry.{EntryParts, DemandParts}
 
 -- harvester 3's first cut: one log of a stem of two zones
 abbrev pub zoned_cut : EntryParts

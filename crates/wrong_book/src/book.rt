@@ -3,15 +3,15 @@ ghost use Rattle.std.specs.Prelude.{◌≡◌, ◌≢◌, ◌+◌, ◌<◌, ◌�
 ghost use Rattle.buck_apt.specs.Instruction.{IsClass, classes};
 ghost use Rattle.buck_rule.specs.Stored.{Answers};
 ghost use Rattle.buck_value.specs.Allowed.{IsAllowed, worth_of};
-ghost use Rattle.buck_book.specs.Posting.{opening_targets, targets_of, cuts_since_end};
-ghost use Rattle.buck_book.specs.Targets.{AreTargets};
-ghost use Rattle.buck_book.specs.Counts.{count_of, assortment_count_of, calls_of};
-ghost use Rattle.buck_book.specs.History.{in_force, version_of};
-ghost use Rattle.buck_book.specs.Book.{IsReadyFor, IsReadyDemand};
+ghost use Rattle.buck_book_postings.specs.Posting.{opening_targets, targets_of, cuts_since_end};
+ghost use Rattle.buck_book_postings.specs.Targets.{AreTargets};
+ghost use Rattle.buck_book_postings.specs.Counts.{count_of, assortment_count_of, calls_of};
+ghost use Rattle.buck_book_postings.specs.History.{in_force, version_of};
+ghost use Rattle.buck_book_postings.specs.Book.{IsReadyFor, IsReadyDemand};
 ghost use Rattle.wrong_book.specs.Books.{IsNoAnswerWith, IsNoAnswerWithDemand};
 
 use buck_apt::{Class, Instruction};
-use buck_book::{
+use buck_book_postings::{
     Book, CutFault, Demand, DemandRefusal, Entry, Memory, Plan, Posting, Ready, ReadyDemand,
     Refusal, TargetsFault, check_targets,
 };

@@ -1,13 +1,13 @@
 //! Wrong answers of a replay in parts.
 ghost use Rattle.std.specs.Prelude.{◌≡◌, ◌-◌, ◌<◌, ◌≤◌, length, slice_get, Some, take};
 ghost use Rattle.buck_dp.specs.Best.{IsAdmissible, cutting_worth};
-ghost use Rattle.buck_book.specs.History.{sheet_at};
-ghost use Rattle.buck_journal.specs.judging.Replay.{IsNumbered};
+ghost use Rattle.buck_book_postings.specs.History.{sheet_at};
+ghost use Rattle.buck_book_journal.specs.judging.Replay.{IsNumbered};
 
 use buck_apt::Instruction;
-use buck_book::{Entry, Posting};
+use buck_book_journal::{Journal, ReplayFault, replay_in_parts};
+use buck_book_postings::{Entry, Posting};
 use buck_dp::Cutting;
-use buck_journal::{Journal, ReplayFault, replay_in_parts};
 use std::alloc::Global;
 use std::sync::Arc;
 use std::thread::Threads;

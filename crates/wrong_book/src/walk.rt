@@ -1,17 +1,17 @@
 //! Wrong answers of a way through the postings of a history.
 ghost use Rattle.std.specs.Prelude.{◌≡◌, ◌<◌, [], ◌∷◌, length};
 ghost use Rattle.buck_apt.specs.Instruction.{classes};
-ghost use Rattle.buck_book.specs.Posting.{cuts_since_end};
-ghost use Rattle.buck_book.specs.Counts.{calls_of};
-ghost use Rattle.buck_book.specs.History.{PricesMeet};
-ghost use Rattle.buck_book.specs.Targets.{AreTargets};
+ghost use Rattle.buck_book_postings.specs.Posting.{cuts_since_end};
+ghost use Rattle.buck_book_postings.specs.Counts.{calls_of};
+ghost use Rattle.buck_book_postings.specs.History.{PricesMeet};
+ghost use Rattle.buck_book_postings.specs.Targets.{AreTargets};
 ghost use Rattle.buck_rule.specs.Stored.{Answers};
-ghost use Rattle.buck_book.specs.Pricing.{AreAnswers};
-ghost use Rattle.buck_book.specs.Walk.{StandsAfter, passed};
+ghost use Rattle.buck_book_postings.specs.Pricing.{AreAnswers};
+ghost use Rattle.buck_book_postings.specs.Walk.{StandsAfter, passed};
 ghost use Rattle.wrong_book.specs.Books.{IsRightPriceAt};
 
 use buck_apt::Instruction;
-use buck_book::{Demand, Memory, Posting, Walk};
+use buck_book_postings::{Demand, Memory, Posting, Walk};
 use buck_rule::{Rule, Standing};
 use buck_value::Sheet;
 use std::alloc::Global;

@@ -1,19 +1,19 @@
 -- What is known of an answer of a call over several files.
 use Rattle.std.proofs.Common.{◌≡◌, ◌<◌, ℕ, ◌+◌, List, [], ◌∷◌, length, map, Option, Some, Result, Ok, inl, inr, sym, ap, ◌∙◌, subst, arith}
 use Rattle.std.proofs.lemmas.List.{length-map}
-use Rattle.buck_engine.specs.declared.fault.EngineFault.{EngineFault}
-use Rattle.buck_engine.specs.declared.fault.EngineFault.TheVariants.{Read, Write, Apt, Stm, Journal, JournalOf, Replay, ReplayOf, Check, Seats, Full, Memory, Close}
-use Rattle.buck_engine.specs.Faults.{status_of, status_or}
+use Rattle.buckfleet_engine.specs.declared.fault.EngineFault.{EngineFault}
+use Rattle.buckfleet_engine.specs.declared.fault.EngineFault.TheVariants.{Read, Write, Apt, Stm, Journal, JournalOf, Replay, ReplayOf, Check, Seats, Full, Memory, Close}
+use Rattle.buckfleet_engine.specs.Faults.{status_of, status_or}
 use Rattle.buck_apt.specs.Faults.{apt_numbers}
 use Rattle.buck_stem.specs.file.Faults.{stm_numbers}
-use Rattle.buck_journal.specs.Faults.{journal_numbers, replay_numbers}
+use Rattle.buck_book_journal.specs.Faults.{journal_numbers, replay_numbers}
 use Rattle.buck_fleet.specs.Faults.{close_numbers}
-use Rattle.buck_terms.specs.declared.fault.TermsFault.{TermsFault}
-use Rattle.buck_terms.specs.declared.fault.TermsFault.TheVariants.{Run, Targets, Own}
-use Rattle.buck_terms.specs.Faults.{own_numbers, targets_numbers, terms_status}
-use Rattle.buck_calls.specs.Room.{IsPut, IsPutAs}
-use Rattle.buck_calls.specs.Several.{AnswersCall, AreHanded, IsAnswered}
-use Rattle.buck_calls.specs.Turns.{AreFiles}
+use Rattle.buckfleet_terms_files.specs.declared.fault.TermsFault.{TermsFault}
+use Rattle.buckfleet_terms_files.specs.declared.fault.TermsFault.TheVariants.{Run, Targets, Own}
+use Rattle.buckfleet_terms_files.specs.Faults.{own_numbers, targets_numbers, terms_status}
+use Rattle.buck_c_calls.specs.Room.{IsPut, IsPutAs}
+use Rattle.buck_c_calls.specs.Several.{AnswersCall, AreHanded, IsAnswered}
+use Rattle.buck_c_calls.specs.Turns.{AreFiles}
 use Rattle.wrong_calls.proofs.Fits.{but_6, fits_or_not, never_of}
 
 -- the statuses that a fault may have

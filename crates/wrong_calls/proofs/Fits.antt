@@ -1,7 +1,7 @@
 -- What is known of an answer by its status.
 use Rattle.std.proofs.Common.{◌≡◌, ◌⊎◌, ◌<◌, ◌≤◌, ℕ, List, length, take, drop, inl, inr, sym, ap, ◌∙◌, arith}
 use Rattle.std.proofs.lemmas.List.{take-append-le, take_all}
-use Rattle.buck_calls.specs.Room.{IsPutAs, IsPut}
+use Rattle.buck_c_calls.specs.Room.{IsPutAs, IsPut}
 
 -- a text that was put fits
 pub done_fits : {X : Type 0} (Answer : List X → ℕ → Type 0) (old new : List X) (written result : ℕ)

@@ -5,19 +5,19 @@ use Rattle.std.proofs.lemmas.List.{length-append}
 use Rattle.buck_apt.specs.Apt.{apt_of}
 use Rattle.buck_apt.specs.Instruction.{InstructionParts}
 use Rattle.buck_apt.specs.Priced.{with_prices}
-use Rattle.buck_sweep.specs.declared.combination.Combination.{Combination}
-use Rattle.buck_terms.specs.Targets.{HasTargets}
-use Rattle.buck_trial.specs.Inputs.{HasWanted}
-use Rattle.buck_trial.specs.Trial.{AnswersTrial, drawn_head, starts_of}
-use Rattle.buck_trial.specs.Tune.{AnswersTune}
-use Rattle.buck_calls.specs.declared.asked.DrawnRun.{DrawnRun}
-use Rattle.buck_calls.specs.declared.asked.Orders.{Orders}
-use Rattle.buck_calls.specs.declared.asked.Run.{Run}
-use Rattle.buck_calls.specs.Asked.{IsCombination, draws_by}
-use Rattle.buck_calls.specs.Room.{IsPut}
-use Rattle.buck_calls.specs.Trials.{IsSwept, IsTuned, IsWished, wanted_in}
-use Rattle.buck_calls.specs.Turns.{AreFiles}
-use Rattle.buck_calls.proofs.Handing.{none_of_few}
+use Rattle.buckfleet_trial_sweep.specs.declared.combination.Combination.{Combination}
+use Rattle.buckfleet_terms_files.specs.Targets.{HasTargets}
+use Rattle.buckfleet_trial.specs.Inputs.{HasWanted}
+use Rattle.buckfleet_trial.specs.Trial.{AnswersTrial, drawn_head, starts_of}
+use Rattle.buckfleet_trial.specs.Tune.{AnswersTune}
+use Rattle.buck_c_calls.specs.declared.asked.DrawnRun.{DrawnRun}
+use Rattle.buck_c_calls.specs.declared.asked.Orders.{Orders}
+use Rattle.buck_c_calls.specs.declared.asked.Run.{Run}
+use Rattle.buck_c_calls.specs.Asked.{IsCombination, draws_by}
+use Rattle.buck_c_calls.specs.Room.{IsPut}
+use Rattle.buck_c_calls.specs.Trials.{IsSwept, IsTuned, IsWished, wanted_in}
+use Rattle.buck_c_calls.specs.Turns.{AreFiles}
+use Rattle.buck_c_calls.proofs.Handing.{none_of_few}
 use Rattle.wrong_calls.proofs.Called.{done, left, misused_empty, none_asked, none_handed, none_told}
 use Rattle.wrong_calls.proofs.Fits.{at_start}
 use Rattle.wrong_calls.proofs.Numbers.{first_by_any, period_0, rule_4}

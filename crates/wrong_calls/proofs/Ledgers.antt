@@ -7,25 +7,25 @@ use Rattle.buck_apt.specs.Apt.{apt_of}
 use Rattle.buck_apt.specs.Instruction.{InstructionParts}
 use Rattle.buck_apt.specs.Settings.{SettingsParts, with_settings}
 use Rattle.buck_rule.specs.declared.named.NamedRule.{NamedRule}
-use Rattle.buck_engine.specs.declared.fault.EngineFault.{EngineFault}
-use Rattle.buck_engine.specs.declared.tie.running.CrossCheck.{CrossCheck}
-use Rattle.buck_engine.specs.Faults.{memory_line, status_of, status_or}
-use Rattle.buck_engine.specs.run.Reading.{apt_with}
-use Rattle.buck_engine.specs.tie.Answers.{AnswersCheckWith}
-use Rattle.buck_terms.specs.declared.fault.TermsFault.{TermsFault}
-use Rattle.buck_terms.specs.declared.fault.TermsFault.TheVariants.{Run as OfRun, Targets, Own}
-use Rattle.buck_terms.specs.Faults.{terms_status}
-use Rattle.buck_ledger.specs.declared.task.CompareTask.{CompareTask}
-use Rattle.buck_ledger.specs.Serving.{AnswersAppraise}
-use Rattle.buck_calls.specs.declared.asked.Numbers.{Numbers}
-use Rattle.buck_calls.specs.declared.asked.Pair.{Pair}
-use Rattle.buck_calls.specs.declared.asked.Run.{Run}
-use Rattle.buck_calls.specs.Asked.{AreSettings, IsCrossCheck, told}
-use Rattle.buck_calls.specs.Ledger.{IsAppraised, IsCheckedWith, IsCompared}
-use Rattle.buck_calls.specs.Room.{IsPut}
-use Rattle.buck_calls.specs.Several.{InTerms}
-use Rattle.buck_calls.specs.Turns.{AreFiles}
-use Rattle.buck_calls.proofs.Handing.{none_of_lengths}
+use Rattle.buckfleet_engine.specs.declared.fault.EngineFault.{EngineFault}
+use Rattle.buckfleet_engine.specs.declared.tie.running.CrossCheck.{CrossCheck}
+use Rattle.buckfleet_engine.specs.Faults.{memory_line, status_of, status_or}
+use Rattle.buckfleet_engine.specs.run.Reading.{apt_with}
+use Rattle.buckfleet_engine.specs.tie.Answers.{AnswersCheckWith}
+use Rattle.buckfleet_terms_files.specs.declared.fault.TermsFault.{TermsFault}
+use Rattle.buckfleet_terms_files.specs.declared.fault.TermsFault.TheVariants.{Run as OfRun, Targets, Own}
+use Rattle.buckfleet_terms_files.specs.Faults.{terms_status}
+use Rattle.buckfleet_proceeds.specs.declared.task.CompareTask.{CompareTask}
+use Rattle.buckfleet_proceeds.specs.Serving.{AnswersAppraise}
+use Rattle.buck_c_calls.specs.declared.asked.Numbers.{Numbers}
+use Rattle.buck_c_calls.specs.declared.asked.Pair.{Pair}
+use Rattle.buck_c_calls.specs.declared.asked.Run.{Run}
+use Rattle.buck_c_calls.specs.Asked.{AreSettings, IsCrossCheck, told}
+use Rattle.buck_c_calls.specs.Ledger.{IsAppraised, IsCheckedWith, IsCompared}
+use Rattle.buck_c_calls.specs.Room.{IsPut}
+use Rattle.buck_c_calls.specs.Several.{InTerms}
+use Rattle.buck_c_calls.specs.Turns.{AreFiles}
+use Rattle.buck_c_calls.proofs.Handing.{none_of_lengths}
 use Rattle.wrong_calls.proofs.Called.{never_misused, none_asked, none_handed, none_told}
 use Rattle.wrong_calls.proofs.Fits.{at_start, but_6, never_of}
 use Rattle.wrong_calls.proofs.Lines.{refused_unlike_memory}

@@ -4,13 +4,13 @@ use Rattle.buck_record.specs.writing.Line.{line_of}
 use Rattle.buck_record.specs.writing.Written.{spelled}
 use Rattle.buck_apt.specs.Faults.{apt_numbers}
 use Rattle.buck_stem.specs.file.Faults.{stm_numbers}
-use Rattle.buck_journal.specs.Faults.{journal_numbers, replay_numbers}
+use Rattle.buck_book_journal.specs.Faults.{journal_numbers, replay_numbers}
 use Rattle.buck_fleet.specs.Faults.{close_numbers}
-use Rattle.buck_engine.specs.declared.fault.EngineFault.TheVariants.{Read, Write, Apt, Stm, Journal, JournalOf, Replay, ReplayOf, Check, Seats, Full, Memory, Close}
-use Rattle.buck_engine.specs.Faults.{memory_line, numbered_line, status_or}
-use Rattle.buck_terms.specs.declared.fault.TermsFault.{TermsFault}
-use Rattle.buck_terms.specs.declared.fault.TermsFault.TheVariants.{Run, Targets, Own}
-use Rattle.buck_terms.specs.Faults.{own_numbers, targets_numbers, terms_line, terms_status}
+use Rattle.buckfleet_engine.specs.declared.fault.EngineFault.TheVariants.{Read, Write, Apt, Stm, Journal, JournalOf, Replay, ReplayOf, Check, Seats, Full, Memory, Close}
+use Rattle.buckfleet_engine.specs.Faults.{memory_line, numbered_line, status_or}
+use Rattle.buckfleet_terms_files.specs.declared.fault.TermsFault.{TermsFault}
+use Rattle.buckfleet_terms_files.specs.declared.fault.TermsFault.TheVariants.{Run, Targets, Own}
+use Rattle.buckfleet_terms_files.specs.Faults.{own_numbers, targets_numbers, terms_line, terms_status}
 
 abbrev first : List ℕ → ℕ
 first [] = 0

@@ -2,10 +2,10 @@
 use Rattle.std.proofs.Common.{◌≡◌, ◌≢◌, ◌<◌, ℕ, ◌+◌, List, ◌++◌, length, sum, inl, inr, ◌∙◌, arith}
 use Rattle.std.proofs.lemmas.Option.{none-some}
 use Rattle.buck_rule.specs.declared.named.NamedRule.{NamedRule}
-use Rattle.buck_calls.specs.declared.turns.Texts.{Texts}
-use Rattle.buck_calls.specs.Room.{IsPut}
-use Rattle.buck_calls.specs.Pages.{IsListed}
-use Rattle.buck_calls.specs.Turns.{ArePut, AreUsed, IsTurned}
+use Rattle.buck_c_calls.specs.declared.turns.Texts.{Texts}
+use Rattle.buck_c_calls.specs.Room.{IsPut}
+use Rattle.buck_c_calls.specs.Pages.{IsListed}
+use Rattle.buck_c_calls.specs.Turns.{ArePut, AreUsed, IsTurned}
 use Rattle.wrong_calls.proofs.Fits.{own_status, never_of}
 
 listed_0 : (table : ℕ) (apt journal : List ℕ) → 5 < table → (text : List ℕ) (status : ℕ)

@@ -5,11 +5,11 @@ use Rattle.std.specs.List.{AllZip}
 use Rattle.std.proofs.lemmas.Option.{none-some}
 use Rattle.buck_apt.specs.Instruction.{IsWithin}
 use Rattle.buck_apt.specs.Settings.{SettingsParts}
-use Rattle.buck_sweep.specs.declared.combination.Combination.{Combination}
-use Rattle.buck_calls.specs.declared.asked.Numbers.{Numbers}
-use Rattle.buck_calls.specs.declared.asked.Run.{Run}
-use Rattle.buck_calls.specs.Asked.{AreSettings, IsCombination, told}
-use Rattle.buck_calls.specs.Books.{rule_of}
+use Rattle.buckfleet_trial_sweep.specs.declared.combination.Combination.{Combination}
+use Rattle.buck_c_calls.specs.declared.asked.Numbers.{Numbers}
+use Rattle.buck_c_calls.specs.declared.asked.Run.{Run}
+use Rattle.buck_c_calls.specs.Asked.{AreSettings, IsCombination, told}
+use Rattle.buck_c_calls.specs.Books.{rule_of}
 
 pub limit_1001 : (n : Numbers) (s : SettingsParts) → n.limit ≡ 1001 → AreSettings n s → ⊥
 limit_1001 n s is (same, valid) =

@@ -2,10 +2,10 @@
 use Rattle.std.proofs.Common.{◌≡◌, ◌≢◌, ℕ, ◌+◌, List, ◌++◌, Some, take, inl, inr, sym, ap, subst, ◌∙◌, arith}
 use Rattle.buck_rule.specs.declared.named.NamedRule.{NamedRule}
 use Rattle.buck_rule.specs.declared.named.NamedRule.TheVariants.{Step}
-use Rattle.buck_engine.proofs.Statuses.{never_0}
-use Rattle.buck_calls.specs.declared.turns.Texts.{Texts}
-use Rattle.buck_calls.specs.Books.{rule_of}
-use Rattle.buck_calls.specs.Turns.{ArePut, HaveTexts, IsTurned}
+use Rattle.buckfleet_engine.proofs.Statuses.{never_0}
+use Rattle.buck_c_calls.specs.declared.turns.Texts.{Texts}
+use Rattle.buck_c_calls.specs.Books.{rule_of}
+use Rattle.buck_c_calls.specs.Turns.{ArePut, HaveTexts, IsTurned}
 use Rattle.wrong_calls.proofs.Fits.{at_start, own_status}
 
 step_is : (named : NamedRule) → rule_of 2 ≡ Some named → named ≡ Step

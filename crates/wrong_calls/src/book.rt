@@ -1,11 +1,11 @@
 //! Wrong answers of a book in its block.
 ghost use Rattle.std.specs.Prelude.{◌≡◌, ◌<◌, ◌≤◌, None, IsSome};
 
-use buck_calls::{
+use buck_c_calls::{
     Cut, State, Terms, buckfleet_close, buckfleet_counts, buckfleet_cut, buckfleet_open,
     buckfleet_prices, buckfleet_retarget, buckfleet_state,
 };
-use buck_held::{Block, Felled, Zone};
+use buck_c_session::{Block, Felled, Zone};
 use std::alloc::Global;
 
 /// A book is opened in a block that holds one, whose memory is lost.

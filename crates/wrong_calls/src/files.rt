@@ -6,7 +6,7 @@ ghost use Rattle.buck_apt.specs.Instruction.{InstructionParts};
 ghost use Rattle.buck_stem.specs.Stem.{StemParts};
 ghost use Rattle.buck_stem.specs.file.Stm.{stm_of};
 
-use buck_calls::{buckfleet_buck, buckfleet_check, buckfleet_table};
+use buck_c_calls::{buckfleet_buck, buckfleet_check, buckfleet_table};
 use std::alloc::Global;
 
 /// The two files are handed on in the other order: one that is read is refused, since it has stems and no instruction.

@@ -2,10 +2,12 @@
 ghost use Rattle.std.specs.Prelude.{◌≡◌, ◌≢◌, ◌∷◌, ℕ, List, Err, length, sum};
 ghost use Rattle.buck_apt.specs.declared.fault.AptFault.{AptFault};
 ghost use Rattle.buck_apt.specs.Apt.{apt_of};
-ghost use Rattle.buck_calls.specs.Turns.{AreFiles};
+ghost use Rattle.buck_c_calls.specs.Turns.{AreFiles};
 
 use crate::OWN;
-use buck_calls::{Numbers, Pair, Run, buckfleet_appraise, buckfleet_check_with, buckfleet_compare};
+use buck_c_calls::{
+    Numbers, Pair, Run, buckfleet_appraise, buckfleet_check_with, buckfleet_compare,
+};
 use std::alloc::Global;
 
 /// A journal is checked although the lengths aren't those of the bytes.

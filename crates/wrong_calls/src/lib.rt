@@ -12,7 +12,7 @@ pub mod looking;
 pub mod trials;
 pub mod turns;
 
-use buck_calls::Numbers;
+use buck_c_calls::Numbers;
 
 /// The instruction's own numbers.
 const OWN: Numbers = Numbers {

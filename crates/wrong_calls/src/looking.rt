@@ -1,8 +1,8 @@
 //! Wrong answers about a felled stem that is looked at in a book in its block.
 ghost use Rattle.std.specs.Prelude.{◌≡◌, ◌≢◌, None, IsSome};
 
-use buck_calls::{Appraised, Cut, State, buckfleet_preview, buckfleet_price_of, buckfleet_state};
-use buck_held::{Block, Felled, NamedLog, Zone};
+use buck_c_calls::{Appraised, Cut, State, buckfleet_preview, buckfleet_price_of, buckfleet_state};
+use buck_c_session::{Block, Felled, NamedLog, Zone};
 use std::alloc::Global;
 
 /// A preview adds a posting to the book.

@@ -2,11 +2,11 @@
 ghost use Rattle.std.specs.Prelude.{◌≡◌, ◌≢◌, ◌<◌, ◌∷◌, ℕ, List, Ok, length};
 ghost use Rattle.buck_apt.specs.Apt.{apt_of};
 ghost use Rattle.buck_apt.specs.Instruction.{InstructionParts};
-ghost use Rattle.buck_terms.specs.Targets.{HasTargets};
-ghost use Rattle.buck_calls.specs.Turns.{AreFiles};
+ghost use Rattle.buckfleet_terms_files.specs.Targets.{HasTargets};
+ghost use Rattle.buck_c_calls.specs.Turns.{AreFiles};
 
 use crate::OWN;
-use buck_calls::{
+use buck_c_calls::{
     DrawnRun, DrawnRuns, Numbers, Orders, Run, buckfleet_sweep, buckfleet_tune, buckfleet_wishes,
 };
 use std::alloc::Global;

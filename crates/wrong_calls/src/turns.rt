@@ -1,9 +1,9 @@
 //! Wrong answers of harvesters in turn.
 ghost use Rattle.std.specs.Prelude.{◌≡◌, ◌≢◌, ◌++◌, ℕ, List, length, sum};
 ghost use Rattle.buck_rule.specs.declared.named.NamedRule.TheVariants.{Step};
-ghost use Rattle.buck_calls.specs.Turns.{HaveTexts};
+ghost use Rattle.buck_c_calls.specs.Turns.{HaveTexts};
 
-use buck_calls::{Texts, buckfleet_in_turn};
+use buck_c_calls::{Texts, buckfleet_in_turn};
 use std::alloc::Global;
 
 /// Bytes are cut although the lengths aren't theirs.

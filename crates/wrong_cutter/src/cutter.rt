@@ -1,11 +1,11 @@
 //! Wrong answers of a book with its planner.
 ghost use Rattle.std.specs.Prelude.{◌≢◌, ◌<◌, ◌≤◌};
 ghost use Rattle.buck_rule.specs.Stored.{Answers};
-ghost use Rattle.buck_book.specs.Refused.{IsBelow};
-ghost use Rattle.buck_journal.specs.Written.{journal_text};
+ghost use Rattle.buck_book_postings.specs.Refused.{IsBelow};
+ghost use Rattle.buck_book_journal.specs.Written.{journal_text};
 
-use buck_book::{CutFault, Memory};
-use buck_cutter::Cutter;
+use buck_book_cutter::Cutter;
+use buck_book_postings::{CutFault, Memory};
 use buck_rule::Standing;
 use buck_stem::Stem;
 use std::alloc::Global;

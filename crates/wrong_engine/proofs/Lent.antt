@@ -1,18 +1,18 @@
 -- A run over an instruction and two journals whose bytes are known.
 use Rattle.std.proofs.Common.{◌≡◌, ℕ, ◌+◌, List, [], ◌∷◌, length, map, slice_index_or, Option, Some, Result, Ok, Err, refl, sym, ap, subst, ◌∙◌, arith}
 use Rattle.buck_apt.specs.Instruction.{InstructionParts}
-use Rattle.buck_book.specs.History.{IsLawful}
-use Rattle.buck_journal.specs.reading.Journal.{JournalParts, journal_of}
-use Rattle.buck_journal.specs.judging.Replay.{history_of}
-use Rattle.buck_engine.specs.declared.fault.EngineFault.{EngineFault}
-use Rattle.buck_engine.specs.declared.run.asked.Shown.{Shown}
-use Rattle.buck_engine.specs.declared.run.asked.Shown.TheVariants.{Page}
-use Rattle.buck_engine.specs.run.Opening.{AnswersInputs, OpensEach}
-use Rattle.buck_engine.specs.run.Reading.{ReadsApt}
-use Rattle.buck_engine.specs.run.Serving.{status_after}
-use Rattle.buck_engine.specs.run.Several.{AreLawful, HaveJournals, HaveSeveral, ShowsPages}
-use Rattle.buck_engine.specs.run.Showing.{ShowsOpened}
-use Rattle.buck_engine.proofs.Statuses.{never_0}
+use Rattle.buck_book_postings.specs.History.{IsLawful}
+use Rattle.buck_book_journal.specs.reading.Journal.{JournalParts, journal_of}
+use Rattle.buck_book_journal.specs.judging.Replay.{history_of}
+use Rattle.buckfleet_engine.specs.declared.fault.EngineFault.{EngineFault}
+use Rattle.buckfleet_engine.specs.declared.run.asked.Shown.{Shown}
+use Rattle.buckfleet_engine.specs.declared.run.asked.Shown.TheVariants.{Page}
+use Rattle.buckfleet_engine.specs.run.Opening.{AnswersInputs, OpensEach}
+use Rattle.buckfleet_engine.specs.run.Reading.{ReadsApt}
+use Rattle.buckfleet_engine.specs.run.Serving.{status_after}
+use Rattle.buckfleet_engine.specs.run.Several.{AreLawful, HaveJournals, HaveSeveral, ShowsPages}
+use Rattle.buckfleet_engine.specs.run.Showing.{ShowsOpened}
+use Rattle.buckfleet_engine.proofs.Statuses.{never_0}
 
 -- an instruction and the second of two journals, which isn't lawful for it
 abbrev pub IsUnlawful : ReadsApt → List ℕ → List ℕ → Type 0

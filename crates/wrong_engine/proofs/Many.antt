@@ -4,18 +4,18 @@ use Rattle.std.specs.Result.{is_err}
 use Rattle.std.specs.Prelude.{slice_index_or, sum_by}
 use Rattle.std.proofs.lemmas.List.{length-map}
 use Rattle.buck_stem.specs.Stem.{StemParts}
-use Rattle.buck_book.specs.declared.posting.Posting.{Posting}
-use Rattle.buck_book.specs.Posting.{harvester_of}
-use Rattle.buck_book.specs.History.{HistoryParts}
-use Rattle.buck_book.specs.Replies.{stem_cut, replies_from, replies_of}
+use Rattle.buck_book_postings.specs.declared.posting.Posting.{Posting}
+use Rattle.buck_book_postings.specs.Posting.{harvester_of}
+use Rattle.buck_book_postings.specs.History.{HistoryParts}
+use Rattle.buck_book_postings.specs.Replies.{stem_cut, replies_from, replies_of}
 use Rattle.buck_stem.specs.file.Stm.{stm_of}
-use Rattle.buck_engine.specs.declared.fault.EngineFault.{EngineFault}
-use Rattle.buck_engine.specs.declared.fault.EngineFault.TheVariants.{Full}
-use Rattle.buck_engine.specs.declared.fleet.serving.Order.{Order}
-use Rattle.buck_engine.specs.declared.fleet.serving.Order.TheVariants.{InTurn}
-use Rattle.buck_engine.specs.run.Reading.{ReadsApt}
-use Rattle.buck_engine.specs.fleet.Lent.{OfWriter}
-use Rattle.buck_engine.specs.fleet.Running.{stems_cut_by, HaveTooMany, IsFleetRun}
+use Rattle.buckfleet_engine.specs.declared.fault.EngineFault.{EngineFault}
+use Rattle.buckfleet_engine.specs.declared.fault.EngineFault.TheVariants.{Full}
+use Rattle.buckfleet_engine.specs.declared.fleet.serving.Order.{Order}
+use Rattle.buckfleet_engine.specs.declared.fleet.serving.Order.TheVariants.{InTurn}
+use Rattle.buckfleet_engine.specs.run.Reading.{ReadsApt}
+use Rattle.buckfleet_engine.specs.fleet.Lent.{OfWriter}
+use Rattle.buckfleet_engine.specs.fleet.Running.{stems_cut_by, HaveTooMany, IsFleetRun}
 
 -- no harvester has more postings than there are
 replies_low : (h p : ℕ) (xs : List Posting) → length (replies_from h p xs) ≤ length xs

@@ -1,11 +1,11 @@
 -- Two files of which only the second is missing.
 use Rattle.std.proofs.Common.{◌≡◌, ℕ, List, Option, Some, None, Result, Ok, Err, ap, ◌∙◌}
 use mathlib.Core.Logic.{inl, inr}
-use Rattle.buck_engine.specs.declared.fault.EngineFault.{EngineFault}
-use Rattle.buck_engine.specs.declared.fault.EngineFault.TheVariants.{Read}
-use Rattle.buck_engine.specs.run.Opening.{AnswersOpening}
-use Rattle.buck_engine.specs.run.Bucking.{AnswersBuck}
-use Rattle.buck_engine.specs.run.Serving.{RunsOpened}
+use Rattle.buckfleet_engine.specs.declared.fault.EngineFault.{EngineFault}
+use Rattle.buckfleet_engine.specs.declared.fault.EngineFault.TheVariants.{Read}
+use Rattle.buckfleet_engine.specs.run.Opening.{AnswersOpening}
+use Rattle.buckfleet_engine.specs.run.Bucking.{AnswersBuck}
+use Rattle.buckfleet_engine.specs.run.Serving.{RunsOpened}
 
 pub second_missing : {O F : Type 0} (opens : O → List ℕ → Option F → O → Type 0) (held : F → Option (List ℕ))
     (start end : O)

@@ -4,16 +4,16 @@ use Rattle.std.specs.Prelude.{◌⊎◌}
 use Rattle.std.specs.Fmt.{digits}
 use Rattle.std.proofs.lemmas.List.{length-take}
 use Rattle.std.proofs.lemmas.Option.{none-some}
-use Rattle.buck_engine.specs.declared.fault.EngineFault.{EngineFault}
-use Rattle.buck_engine.specs.declared.fault.EngineFault.TheVariants.{Read, Write, Apt, Stm, Journal, JournalOf, Replay, ReplayOf, Check, Seats, Full, Memory, Close}
-use Rattle.buck_engine.specs.declared.run.asked.Shown.{Shown}
-use Rattle.buck_engine.specs.declared.run.asked.Shown.TheVariants.{Table}
-use Rattle.buck_engine.specs.Faults.{fault_line}
-use Rattle.buck_engine.specs.run.Opening.{AnswersAll, AnswersInputs, OpensEach, OpensUpTo}
-use Rattle.buck_engine.specs.run.Reading.{ReadsApt}
-use Rattle.buck_engine.specs.run.Serving.{AppendsFirst, TellsOutcome, status_after}
-use Rattle.buck_engine.specs.run.Several.{ShowsTables}
-use Rattle.buck_engine.specs.run.Showing.{ShowsOpened}
+use Rattle.buckfleet_engine.specs.declared.fault.EngineFault.{EngineFault}
+use Rattle.buckfleet_engine.specs.declared.fault.EngineFault.TheVariants.{Read, Write, Apt, Stm, Journal, JournalOf, Replay, ReplayOf, Check, Seats, Full, Memory, Close}
+use Rattle.buckfleet_engine.specs.declared.run.asked.Shown.{Shown}
+use Rattle.buckfleet_engine.specs.declared.run.asked.Shown.TheVariants.{Table}
+use Rattle.buckfleet_engine.specs.Faults.{fault_line}
+use Rattle.buckfleet_engine.specs.run.Opening.{AnswersAll, AnswersInputs, OpensEach, OpensUpTo}
+use Rattle.buckfleet_engine.specs.run.Reading.{ReadsApt}
+use Rattle.buckfleet_engine.specs.run.Serving.{AppendsFirst, TellsOutcome, status_after}
+use Rattle.buckfleet_engine.specs.run.Several.{ShowsTables}
+use Rattle.buckfleet_engine.specs.run.Showing.{ShowsOpened}
 use Rattle.wrong_engine.proofs.Unlike.{taken_whole}
 
 -- the line of file 1

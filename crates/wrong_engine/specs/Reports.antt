@@ -4,10 +4,10 @@ use Rattle.std.specs.List.{flat_map, range_with_len}
 use Rattle.buck_apt.specs.declared.class.Class.{Class}
 use Rattle.buck_apt.specs.Instruction.{AssortmentParts, index_of}
 use Rattle.buck_record.specs.writing.Line.{line_of}
-use Rattle.buck_book.specs.declared.posting.Posting.{Posting}
-use Rattle.buck_book.specs.Degree.{part_of, degree_of}
-use Rattle.buck_engine.specs.text.Bucking.{total_line}
-use Rattle.buck_engine.specs.text.Report.{EndingParts, degree_line, logs_in, posting_lines, worth_in}
+use Rattle.buck_book_postings.specs.declared.posting.Posting.{Posting}
+use Rattle.buck_book_postings.specs.Degree.{part_of, degree_of}
+use Rattle.buckfleet_engine.specs.text.Bucking.{total_line}
+use Rattle.buckfleet_engine.specs.text.Report.{EndingParts, degree_line, logs_in, posting_lines, worth_in}
 
 -- all postings but the first, in the places that they have
 abbrev pub lines_after_first : List Posting → List ℕ

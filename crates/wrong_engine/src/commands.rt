@@ -1,10 +1,10 @@
 //! Wrong bodies of the work that the words of the command line ask for.
 ghost use Rattle.std.specs.Prelude.{◌≡◌, ◌≢◌, ◌+◌, ◌<◌, length, None};
 
-use buck_command::{Work, serve_work};
-use buck_engine::{FleetTask, Make, Nobody, Open, Order, Settings, Task};
 use buck_rule::NamedRule;
-use buck_terms::conclude_terms;
+use buckfleet_command::{Work, serve_work};
+use buckfleet_engine::{FleetTask, Make, Nobody, Open, Order, Settings, Task};
+use buckfleet_terms_files::conclude_terms;
 use std::alloc::Global;
 use std::sync::Wait;
 use std::thread::Threads;

@@ -3,14 +3,14 @@ ghost use Rattle.std.specs.Prelude.{◌≡◌, ◌≢◌, ◌-◌, ◌<◌, leng
 ghost use Rattle.std.specs.List.{before_first, before_last};
 ghost use Rattle.buck_apt.specs.Instruction.{InstructionParts};
 ghost use Rattle.buck_apt.specs.Apt.{apt_of};
-ghost use Rattle.buck_book.specs.History.{IsLawful};
-ghost use Rattle.buck_journal.specs.reading.Journal.{JournalParts, journal_of};
-ghost use Rattle.buck_journal.specs.judging.Replay.{history_of};
-ghost use Rattle.buck_engine.specs.run.Checking.{lawful_line};
-ghost use Rattle.buck_engine.specs.run.Bucking.{is_bar};
+ghost use Rattle.buck_book_postings.specs.History.{IsLawful};
+ghost use Rattle.buck_book_journal.specs.reading.Journal.{JournalParts, journal_of};
+ghost use Rattle.buck_book_journal.specs.judging.Replay.{history_of};
+ghost use Rattle.buckfleet_engine.specs.run.Checking.{lawful_line};
+ghost use Rattle.buckfleet_engine.specs.run.Bucking.{is_bar};
 
 use buck_apt::AptFault;
-use buck_engine::{EngineFault, run_bare, run_buck, run_check};
+use buckfleet_engine::{EngineFault, run_bare, run_buck, run_check};
 use std::alloc::Global;
 
 /// Refuses an instruction that isn't to be refused.

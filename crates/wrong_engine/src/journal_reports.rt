@@ -2,13 +2,13 @@
 ghost use Rattle.std.specs.Prelude.{◌≡◌, ◌≢◌, List, ℕ, Ok};
 ghost use Rattle.buck_apt.specs.Instruction.{InstructionParts};
 ghost use Rattle.buck_apt.specs.Apt.{apt_of};
-ghost use Rattle.buck_book.specs.History.{IsLawful};
-ghost use Rattle.buck_journal.specs.reading.Journal.{JournalParts, journal_of};
-ghost use Rattle.buck_journal.specs.judging.Replay.{history_of};
-ghost use Rattle.buck_engine.specs.text.Report.{ending_of, report_of};
+ghost use Rattle.buck_book_postings.specs.History.{IsLawful};
+ghost use Rattle.buck_book_journal.specs.reading.Journal.{JournalParts, journal_of};
+ghost use Rattle.buck_book_journal.specs.judging.Replay.{history_of};
+ghost use Rattle.buckfleet_engine.specs.text.Report.{ending_of, report_of};
 
 use crate::opened::Missing;
-use buck_engine::{EngineFault, Nobody, Settings, Task, run_report, serve};
+use buckfleet_engine::{EngineFault, Nobody, Settings, Task, run_report, serve};
 use std::alloc::Global;
 
 /// The report of a journal is written that isn't lawful.

@@ -3,12 +3,12 @@ ghost use Rattle.std.specs.Prelude.{◌≡◌, ◌≢◌, length, true, false, I
 ghost use Rattle.std.specs.List.{before_first, after_first};
 ghost use Rattle.buck_apt.specs.Apt.{apt_of};
 ghost use Rattle.buck_stem.specs.file.Stm.{stm_of};
-ghost use Rattle.buck_engine.specs.run.Bucking.{is_bar};
+ghost use Rattle.buckfleet_engine.specs.run.Bucking.{is_bar};
 
-use buck_engine::{
+use buck_rule::NamedRule;
+use buckfleet_engine::{
     FleetTask, Make, Nobody, Open, Order, Settings, Task, conclude, serve, serve_fleet,
 };
-use buck_rule::NamedRule;
 use std::alloc::Global;
 use std::sync::Wait;
 use std::thread::Threads;

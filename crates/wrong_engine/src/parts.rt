@@ -2,16 +2,16 @@
 ghost use Rattle.std.specs.Prelude.{◌≡◌, ◌≢◌, List, Ok};
 ghost use Rattle.buck_apt.specs.Instruction.{InstructionParts};
 ghost use Rattle.buck_apt.specs.Apt.{apt_of};
-ghost use Rattle.buck_book.specs.History.{IsLawful};
-ghost use Rattle.buck_journal.specs.reading.Journal.{JournalParts, journal_of};
-ghost use Rattle.buck_journal.specs.judging.Replay.{history_of};
+ghost use Rattle.buck_book_postings.specs.History.{IsLawful};
+ghost use Rattle.buck_book_journal.specs.reading.Journal.{JournalParts, journal_of};
+ghost use Rattle.buck_book_journal.specs.judging.Replay.{history_of};
 ghost use Rattle.buck_stem.specs.Stem.{StemParts};
 ghost use Rattle.buck_stem.specs.file.Stm.{stm_of};
-ghost use Rattle.buck_engine.specs.run.Reading.{apt_with};
-ghost use Rattle.buck_engine.specs.text.Bucking.{CutStem, IsBucking, base_sheet, text_of};
+ghost use Rattle.buckfleet_engine.specs.run.Reading.{apt_with};
+ghost use Rattle.buckfleet_engine.specs.text.Bucking.{CutStem, IsBucking, base_sheet, text_of};
 ghost use Rattle.wrong_engine.specs.Texts.{first_half, halves_swapped};
 
-use buck_engine::{CrossCheck, Nobody, SeveralThreads, run_buck_in_parts, run_check_with};
+use buckfleet_engine::{CrossCheck, Nobody, SeveralThreads, run_buck_in_parts, run_check_with};
 use std::alloc::Global;
 use std::thread::Threads;
 

@@ -1,14 +1,14 @@
 //! Wrong bodies of the report of a closed fleet, and of the degree of apportionment.
 ghost use Rattle.std.specs.Prelude.{◌≡◌, ◌≢◌, ◌++◌, ◌<◌, ◌∷◌, [], ℕ, List, Some, length, slice_get, sum};
 ghost use Rattle.buck_apt.specs.Instruction.{AssortmentParts};
-ghost use Rattle.buck_book.specs.Counts.{AreClassCounts};
-ghost use Rattle.buck_book.specs.Posting.{targets_of};
-ghost use Rattle.buck_book.specs.Degree.{part_of};
-ghost use Rattle.buck_engine.specs.text.Report.{all_lines, ending_of, posting_lines, totals_line};
+ghost use Rattle.buck_book_postings.specs.Counts.{AreClassCounts};
+ghost use Rattle.buck_book_postings.specs.Posting.{targets_of};
+ghost use Rattle.buck_book_postings.specs.Degree.{part_of};
+ghost use Rattle.buckfleet_engine.specs.text.Report.{all_lines, ending_of, posting_lines, totals_line};
 ghost use Rattle.wrong_engine.specs.Reports.{lines_after_first, opening_lines, postings_total};
 
-use buck_engine::{degree, report_text};
 use buck_fleet::Closed;
+use buckfleet_engine::{degree, report_text};
 use std::alloc::Global;
 
 /// The first posting has no line.

@@ -3,18 +3,18 @@ ghost use Rattle.std.specs.Prelude.{◌≡◌, ◌≢◌, List, [], Ok};
 ghost use Rattle.buck_apt.specs.Instruction.{InstructionParts};
 ghost use Rattle.buck_stem.specs.Stem.{StemParts};
 ghost use Rattle.buck_stem.specs.file.Stm.{stm_of};
-ghost use Rattle.buck_journal.specs.reading.Journal.{JournalParts, journal_of};
-ghost use Rattle.buck_journal.specs.judging.Replay.{history_of};
+ghost use Rattle.buck_book_journal.specs.reading.Journal.{JournalParts, journal_of};
+ghost use Rattle.buck_book_journal.specs.judging.Replay.{history_of};
 ghost use Rattle.buck_rule.specs.declared.named.NamedRule.TheVariants.{Linear};
-ghost use Rattle.buck_engine.specs.run.Reading.{apt_with};
-ghost use Rattle.buck_engine.specs.tie.Ties.{FollowsRule, stems_by};
+ghost use Rattle.buckfleet_engine.specs.run.Reading.{apt_with};
+ghost use Rattle.buckfleet_engine.specs.tie.Ties.{FollowsRule, stems_by};
 
 use crate::opened::Missing;
-use buck_engine::{
+use buck_rule::NamedRule;
+use buckfleet_engine::{
     CheckFault, CheckTask, CrossCheck, EngineFault, Nobody, OneThread, Settings, run_check_with,
     serve_check, status,
 };
-use buck_rule::NamedRule;
 use std::alloc::Global;
 use std::thread::Threads;
 

@@ -3,15 +3,15 @@ ghost use Rattle.std.specs.Prelude.{◌≡◌, ◌≢◌, ◌<◌, ◌≤◌, Li
 ghost use Rattle.buck_rule.specs.Stored.{Answers};
 ghost use Rattle.buck_stem.specs.Stem.{StemParts};
 ghost use Rattle.buck_stem.specs.file.Stm.{stm_of};
-ghost use Rattle.buck_book.specs.History.{HistoryParts};
-ghost use Rattle.buck_book.specs.Pricing.{AreSheetsBy};
-ghost use Rattle.buck_turn.specs.Turn.{AreInTurn};
-ghost use Rattle.buck_engine.specs.fleet.Running.{AreFirsts};
-ghost use Rattle.buck_engine.specs.text.Report.{ending_of, report_of};
+ghost use Rattle.buck_book_postings.specs.History.{HistoryParts};
+ghost use Rattle.buck_book_postings.specs.Pricing.{AreSheetsBy};
+ghost use Rattle.buck_fleet_round_robin.specs.Turn.{AreInTurn};
+ghost use Rattle.buckfleet_engine.specs.fleet.Running.{AreFirsts};
+ghost use Rattle.buckfleet_engine.specs.text.Report.{ending_of, report_of};
 
 use crate::views::Calls;
-use buck_engine::{EngineFault, run_in_turn};
 use buck_rule::{Rule, Standing, steady};
+use buckfleet_engine::{EngineFault, run_in_turn};
 use std::alloc::Global;
 
 /// 65 stem files are accepted.

@@ -3,13 +3,13 @@ ghost use Rattle.std.specs.Prelude.{◌≡◌, ◌≢◌, ◌+◌, ◌<◌, [], 
 ghost use Rattle.buck_apt.specs.Instruction.{InstructionParts};
 ghost use Rattle.buck_apt.specs.Apt.{apt_of};
 ghost use Rattle.buck_apt.specs.Settings.{own_numbers};
-ghost use Rattle.buck_book.specs.History.{IsLawful};
-ghost use Rattle.buck_journal.specs.reading.Journal.{JournalParts, journal_of};
-ghost use Rattle.buck_journal.specs.judging.Replay.{history_of};
-ghost use Rattle.buck_engine.specs.run.Reading.{apt_with};
+ghost use Rattle.buck_book_postings.specs.History.{IsLawful};
+ghost use Rattle.buck_book_journal.specs.reading.Journal.{JournalParts, journal_of};
+ghost use Rattle.buck_book_journal.specs.judging.Replay.{history_of};
+ghost use Rattle.buckfleet_engine.specs.run.Reading.{apt_with};
 
 use crate::opened::Missing;
-use buck_engine::{
+use buckfleet_engine::{
     EngineFault, Files, Nobody, Open, Settings, Shown, Table, ViewTask, conclude, run_table,
     run_view, serve_view,
 };

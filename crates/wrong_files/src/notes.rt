@@ -1,9 +1,9 @@
 //! Wrong answers about what is worth a note.
 ghost use Rattle.std.specs.Prelude.{◌≡◌, slice_index, true, false};
-ghost use Rattle.buck_notes.specs.Notes.{has_species, is_namesake};
+ghost use Rattle.buckfleet_notes.specs.Notes.{has_species, is_namesake};
 
 use buck_apt::Instruction;
-use buck_notes::{first_again, first_namesake, first_untaken, is_too_long, is_unsteered};
+use buckfleet_notes::{first_again, first_namesake, first_untaken, is_too_long, is_unsteered};
 use std::alloc::Global;
 
 /// A number that stands once is noted.

@@ -4,7 +4,7 @@ ghost use Rattle.buck_rule.specs.Stored.{AllAnswer};
 ghost use Rattle.buck_board.specs.Board.{IsSnapshotOf, version_of};
 ghost use Rattle.buck_fleet.specs.Fleet.{IsSeatIn};
 
-use buck_book::Plan;
+use buck_book_postings::Plan;
 use buck_fleet::{Fleet, Gate, Seat, Snapshot};
 use buck_rule::Standing;
 use buck_stem::Stem;

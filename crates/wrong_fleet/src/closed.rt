@@ -1,6 +1,6 @@
 //! Wrong bodies of what is asked of a closed fleet.
 ghost use Rattle.std.specs.Prelude.{◌≢◌, []};
-ghost use Rattle.buck_book.specs.History.{version_of};
+ghost use Rattle.buck_book_postings.specs.History.{version_of};
 
 use buck_fleet::Closed;
 

@@ -1,13 +1,13 @@
 //! Wrong bodies of how a fleet is closed. No caller can make the lists that the seats kept, so each of these looks at
 //! the lists that were handed out, if they differ from the history in the way that the wrong body gets wrong.
 ghost use Rattle.std.specs.Prelude.{◌≡◌, ◌≢◌, ◌<◌, ◌≤◌, IsTrue, length};
-ghost use Rattle.buck_book.specs.Posting.{harvester_of};
+ghost use Rattle.buck_book_postings.specs.Posting.{harvester_of};
 ghost use Rattle.buck_fleet.specs.Crew.{IsCrew, parts_of};
 ghost use Rattle.buck_fleet.specs.Closed.{kept_by};
-ghost use Rattle.buck_book.specs.Replies.{replies_of};
+ghost use Rattle.buck_book_postings.specs.Replies.{replies_of};
 
 use buck_apt::Instruction;
-use buck_book::Posting;
+use buck_book_postings::Posting;
 use buck_fleet::{CloseFault, Closed, Fleet, Seat};
 use std::sync::ledger::Ledger;
 

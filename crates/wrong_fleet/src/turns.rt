@@ -3,10 +3,10 @@ ghost use Rattle.std.specs.Prelude.{◌≤◌, length};
 ghost use Rattle.buck_rule.specs.Stored.{Answers};
 
 use buck_apt::Instruction;
-use buck_book::{CutFault, Posting};
+use buck_book_postings::{CutFault, Posting};
+use buck_fleet_round_robin::cut_in_turn;
 use buck_rule::{Rule, Standing};
 use buck_stem::Stem;
-use buck_turn::cut_in_turn;
 use std::alloc::Global;
 use std::sync::Arc;
 

@@ -7,22 +7,22 @@ use Rattle.buck_stem.specs.declared.file.fault.StmFault.{StmFault}
 use Rattle.buck_stem.specs.Stem.{StemParts}
 use Rattle.buck_value.specs.declared.log.Log.{Log}
 use Rattle.buck_dp.specs.Best.{IsFirstBest, cutting_worth}
-use Rattle.buck_own.specs.declared.reason.Reason.TheVariants.{Species}
-use Rattle.buck_own.specs.declared.judging.Judged.{Judged}
-use Rattle.buck_own.specs.declared.judging.Judged.TheVariants.{Admissible, Refused}
-use Rattle.buck_own.specs.Judged.{IsJudged}
-use Rattle.buck_own.proofs.Alone.{one_judged}
-use Rattle.buck_book.specs.History.{HistoryParts, in_force}
-use Rattle.buck_engine.specs.Faults.{memory_line}
-use Rattle.buck_engine.specs.text.Bucking.{named_line_of}
+use Rattle.buck_dp_own_logs.specs.declared.reason.Reason.TheVariants.{Species}
+use Rattle.buck_dp_own_logs.specs.declared.judging.Judged.{Judged}
+use Rattle.buck_dp_own_logs.specs.declared.judging.Judged.TheVariants.{Admissible, Refused}
+use Rattle.buck_dp_own_logs.specs.Judged.{IsJudged}
+use Rattle.buck_dp_own_logs.proofs.Alone.{one_judged}
+use Rattle.buck_book_postings.specs.History.{HistoryParts, in_force}
+use Rattle.buckfleet_engine.specs.Faults.{memory_line}
+use Rattle.buckfleet_engine.specs.text.Bucking.{named_line_of}
 use Rattle.buck_record.specs.writing.Written.{spelled}
-use Rattle.buck_live.specs.Lines.{lines_of}
-use Rattle.buck_live.specs.Request.{request_of}
-use Rattle.buck_live.specs.Answers.{AnswersAll, AnswersAsked, AnswersLine, AnswersRead, SaysOnly, own_line, preview_lines}
-use Rattle.buck_live.specs.Live.{IsLiveRun}
-use Rattle.buck_live.specs.declared.request.Asked.{Asked}
-use Rattle.buck_live.specs.declared.request.Asked.TheVariants.{Own, Preview}
-use Rattle.buck_live.specs.declared.request.Request.{Request}
+use Rattle.buckfleet_live.specs.Lines.{lines_of}
+use Rattle.buckfleet_live.specs.Request.{request_of}
+use Rattle.buckfleet_live.specs.Answers.{AnswersAll, AnswersAsked, AnswersLine, AnswersRead, SaysOnly, own_line, preview_lines}
+use Rattle.buckfleet_live.specs.Live.{IsLiveRun}
+use Rattle.buckfleet_live.specs.declared.request.Asked.{Asked}
+use Rattle.buckfleet_live.specs.declared.request.Asked.TheVariants.{Own, Preview}
+use Rattle.buckfleet_live.specs.declared.request.Request.{Request}
 
 only_line : (before after : HistoryParts) (text : List ℕ) (line : Option (List ℕ))
     → AnswersAll before (line ∷ []) text after → AnswersLine before line text after

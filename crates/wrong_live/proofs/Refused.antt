@@ -1,8 +1,8 @@
 -- An input that ends within its only line.
 use Rattle.std.proofs.Common.{◌≡◌, ℕ, List, [], ◌∷◌, Option, Some, None, Ok, codes, sym, subst, ◌∙◌, append-nil}
-use Rattle.buck_book.specs.History.{HistoryParts}
-use Rattle.buck_live.specs.Answers.{AnswersAll}
-use Rattle.buck_live.specs.Live.{IsLiveRun}
+use Rattle.buck_book_postings.specs.History.{HistoryParts}
+use Rattle.buckfleet_live.specs.Answers.{AnswersAll}
+use Rattle.buckfleet_live.specs.Live.{IsLiveRun}
 
 only_line : (before after : HistoryParts) (text : List ℕ) → AnswersAll before (None ∷ []) text after → after ≡ before
 only_line before after text (between, first, rest, one, last, is) = last.1 ∙ one.1

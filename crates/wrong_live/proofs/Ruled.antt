@@ -4,22 +4,22 @@ use Rattle.std.specs.Result.{result_and}
 use Rattle.buck_apt.specs.Instruction.{InstructionParts}
 use Rattle.buck_apt.specs.Settings.{with_settings}
 use Rattle.buck_rule.specs.declared.named.NamedRule.{NamedRule}
-use Rattle.buck_book.specs.History.{HistoryParts}
-use Rattle.buck_book.specs.Pricing.{Calls}
-use Rattle.buck_book.specs.Book.{BookParts}
-use Rattle.buck_book.specs.Pricing.{AreSheetsBy}
-use Rattle.buck_book.proofs.Given.{none_given}
-use Rattle.buck_journal.specs.Written.{journal_text}
-use Rattle.buck_engine.specs.declared.fault.EngineFault.{EngineFault}
-use Rattle.buck_engine.specs.Faults.{status_of}
-use Rattle.buck_engine.specs.run.Serving.{status_after}
-use Rattle.buck_engine.specs.fleet.Lent.{OfWriter}
-use Rattle.buck_engine.specs.tie.Ties.{FollowsRule}
-use Rattle.buck_engine.proofs.Statuses.{never_0}
-use Rattle.buck_live.specs.declared.serving.LiveTask.{LiveTask}
-use Rattle.buck_cutter.specs.Cut.{StaysByRule, opening}
-use Rattle.buck_live.specs.Live.{IsLiveRun}
-use Rattle.buck_live.specs.Serving.{AnswersLive, KeepsJournal, RunsApt, RunsLive, RunsMade}
+use Rattle.buck_book_postings.specs.History.{HistoryParts}
+use Rattle.buck_book_postings.specs.Pricing.{Calls}
+use Rattle.buck_book_postings.specs.Book.{BookParts}
+use Rattle.buck_book_postings.specs.Pricing.{AreSheetsBy}
+use Rattle.buck_book_postings.proofs.Given.{none_given}
+use Rattle.buck_book_journal.specs.Written.{journal_text}
+use Rattle.buckfleet_engine.specs.declared.fault.EngineFault.{EngineFault}
+use Rattle.buckfleet_engine.specs.Faults.{status_of}
+use Rattle.buckfleet_engine.specs.run.Serving.{status_after}
+use Rattle.buckfleet_engine.specs.fleet.Lent.{OfWriter}
+use Rattle.buckfleet_engine.specs.tie.Ties.{FollowsRule}
+use Rattle.buckfleet_engine.proofs.Statuses.{never_0}
+use Rattle.buckfleet_live.specs.declared.serving.LiveTask.{LiveTask}
+use Rattle.buck_book_cutter.specs.Cut.{StaysByRule, opening}
+use Rattle.buckfleet_live.specs.Live.{IsLiveRun}
+use Rattle.buckfleet_live.specs.Serving.{AnswersLive, KeepsJournal, RunsApt, RunsLive, RunsMade}
 
 -- the journal of a run is that of a history by the rule that it was opened with
 pub another_rule : {F : Type 0} (g : Calls F) (opened after : BookParts F) (rule : F) (i : InstructionParts)

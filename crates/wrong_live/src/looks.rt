@@ -6,19 +6,19 @@ ghost use Rattle.buck_rule.specs.Stored.{Answers};
 ghost use Rattle.buck_stem.specs.Stem.{StemParts};
 ghost use Rattle.buck_value.specs.declared.log.Log.{Log};
 ghost use Rattle.buck_dp.specs.Best.{IsFirstBest};
-ghost use Rattle.buck_own.specs.declared.reason.Reason.TheVariants.{Species};
-ghost use Rattle.buck_own.specs.declared.judging.Judged.TheVariants.{Admissible, Refused};
-ghost use Rattle.buck_own.specs.Judged.{IsJudged};
-ghost use Rattle.buck_book.specs.History.{in_force};
-ghost use Rattle.buck_engine.specs.Faults.{memory_line};
-ghost use Rattle.buck_live.specs.Lines.{lines_of};
-ghost use Rattle.buck_live.specs.Request.{request_of};
-ghost use Rattle.buck_live.specs.Answers.{preview_lines};
-ghost use Rattle.buck_live.specs.declared.request.Asked.TheVariants.{Own, Preview};
-ghost use Rattle.buck_live.specs.declared.request.Request.{Request};
+ghost use Rattle.buck_dp_own_logs.specs.declared.reason.Reason.TheVariants.{Species};
+ghost use Rattle.buck_dp_own_logs.specs.declared.judging.Judged.TheVariants.{Admissible, Refused};
+ghost use Rattle.buck_dp_own_logs.specs.Judged.{IsJudged};
+ghost use Rattle.buck_book_postings.specs.History.{in_force};
+ghost use Rattle.buckfleet_engine.specs.Faults.{memory_line};
+ghost use Rattle.buckfleet_live.specs.Lines.{lines_of};
+ghost use Rattle.buckfleet_live.specs.Request.{request_of};
+ghost use Rattle.buckfleet_live.specs.Answers.{preview_lines};
+ghost use Rattle.buckfleet_live.specs.declared.request.Asked.TheVariants.{Own, Preview};
+ghost use Rattle.buckfleet_live.specs.declared.request.Request.{Request};
 
-use buck_live::Live;
 use buck_rule::Standing;
+use buckfleet_live::Live;
 use std::alloc::Global;
 
 /// A preview posts the cut that it shows.

@@ -1,21 +1,21 @@
 //! Wrong bodies of requests.
-#![tactic(auto, unfolding(buck_record::specs::bytes::Record::numbers_of, buck_record::specs::bytes::Record::number_at_most, buck_record::specs::bytes::Record::item_of, buck_record::specs::bytes::Record::items_of, buck_record::specs::bytes::White::words, buck_record::specs::bytes::White::first_word, buck_record::specs::bytes::White::after_word, buck_record::specs::bytes::White::trim_start, buck_record::specs::bytes::White::trim_end, buck_record::specs::Reading::each_from, buck_record::specs::checking::Table::rest_in, buck_record::specs::checking::Rules::numbers_in, buck_live::specs::Request::request_of, buck_live::specs::Request::requested, buck_live::specs::Request::present, buck_live::specs::Request::single, buck_live::specs::Request::harvester_in, buck_live::specs::Request::asked_in))]
+#![tactic(auto, unfolding(buck_record::specs::bytes::Record::numbers_of, buck_record::specs::bytes::Record::number_at_most, buck_record::specs::bytes::Record::item_of, buck_record::specs::bytes::Record::items_of, buck_record::specs::bytes::White::words, buck_record::specs::bytes::White::first_word, buck_record::specs::bytes::White::after_word, buck_record::specs::bytes::White::trim_start, buck_record::specs::bytes::White::trim_end, buck_record::specs::Reading::each_from, buck_record::specs::checking::Table::rest_in, buck_record::specs::checking::Rules::numbers_in, buckfleet_live::specs::Request::request_of, buckfleet_live::specs::Request::requested, buckfleet_live::specs::Request::present, buckfleet_live::specs::Request::single, buckfleet_live::specs::Request::harvester_in, buckfleet_live::specs::Request::asked_in))]
 
 ghost use Rattle.std.specs.Prelude.{◌≡◌, ◌≢◌, [], Some, Ok};
 ghost use Rattle.buck_apt.specs.Instruction.{InstructionParts};
 ghost use Rattle.buck_rule.specs.Stored.{Answers};
 ghost use Rattle.buck_rule.specs.declared.named.NamedRule.TheVariants.{Step};
-ghost use Rattle.buck_book.specs.History.{HistoryParts};
-ghost use Rattle.buck_book.specs.Pricing.{AreSheetsBy};
-ghost use Rattle.buck_journal.specs.Written.{journal_text};
-ghost use Rattle.buck_engine.specs.tie.Ties.{FollowsRule};
-ghost use Rattle.buck_cutter.specs.Cut.{opening};
-ghost use Rattle.buck_live.specs.Live.{IsLiveRun};
+ghost use Rattle.buck_book_postings.specs.History.{HistoryParts};
+ghost use Rattle.buck_book_postings.specs.Pricing.{AreSheetsBy};
+ghost use Rattle.buck_book_journal.specs.Written.{journal_text};
+ghost use Rattle.buckfleet_engine.specs.tie.Ties.{FollowsRule};
+ghost use Rattle.buck_book_cutter.specs.Cut.{opening};
+ghost use Rattle.buckfleet_live.specs.Live.{IsLiveRun};
 
 use buck_apt::Instruction;
-use buck_engine::{EngineFault, Make, Nobody, Open, conclude};
-use buck_live::{Live, LiveTask, Replies, read_request, serve_live};
 use buck_rule::{Rule, Standing};
+use buckfleet_engine::{EngineFault, Make, Nobody, Open, conclude};
+use buckfleet_live::{Live, LiveTask, Replies, read_request, serve_live};
 use std::alloc::Global;
 use std::sync::Arc;
 

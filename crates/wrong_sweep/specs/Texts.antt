@@ -4,15 +4,15 @@ use Rattle.std.specs.List.{AllByRecursion, Contains}
 use Rattle.buck_apt.specs.Apt.{apt_of}
 use Rattle.buck_apt.specs.Instruction.{InstructionParts}
 use Rattle.buck_apt.specs.Settings.{own_numbers}
-use Rattle.buck_book.specs.History.{HistoryParts}
-use Rattle.buck_figures.specs.Figures.{volume_in, worth_in}
-use Rattle.buck_figures.specs.declared.degrees.Degrees.{Degrees}
+use Rattle.buck_book_postings.specs.History.{HistoryParts}
+use Rattle.buck_page_figures.specs.Figures.{volume_in, worth_in}
+use Rattle.buck_page_figures.specs.declared.degrees.Degrees.{Degrees}
 use Rattle.buck_rule.specs.declared.named.NamedRule.{NamedRule}
 use Rattle.buck_rule.specs.Named.{rule_name}
-use Rattle.buck_engine.specs.run.Reading.{Says}
-use Rattle.buck_sweep.specs.declared.combination.Combination.{Combination}
-use Rattle.buck_sweep.specs.Sweep.{IsLineOver}
-use Rattle.buck_sweep.specs.Table.{Assorted, apart_of, cells, front_of, head_line, line_of, rate_of, volumes_of, wholes_of}
+use Rattle.buckfleet_engine.specs.run.Reading.{Says}
+use Rattle.buckfleet_trial_sweep.specs.declared.combination.Combination.{Combination}
+use Rattle.buckfleet_trial_sweep.specs.Sweep.{IsLineOver}
+use Rattle.buckfleet_trial_sweep.specs.Table.{Assorted, apart_of, cells, front_of, head_line, line_of, rate_of, volumes_of, wholes_of}
 
 -- a rule with the instruction's own numbers
 abbrev pub own_run : NamedRule → Combination

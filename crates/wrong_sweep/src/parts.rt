@@ -1,11 +1,11 @@
 //! Wrong bodies of a table whose runs are done in several threads at once.
 ghost use Rattle.std.specs.Prelude.{◌≡◌, ◌++◌, ◌∷◌, [], ℕ, List, Option, Some, map};
 ghost use Rattle.buck_rule.specs.declared.named.NamedRule.TheVariants.{Steady, Step};
-ghost use Rattle.buck_sweep.specs.Sweep.{IsLineOver};
+ghost use Rattle.buckfleet_trial_sweep.specs.Sweep.{IsLineOver};
 ghost use Rattle.wrong_sweep.specs.Texts.{StandsIn, own_run};
 
-use buck_engine::Nobody;
-use buck_sweep::{SweepTask, run_sweep_in_parts};
+use buckfleet_engine::Nobody;
+use buckfleet_trial_sweep::{SweepTask, run_sweep_in_parts};
 use std::alloc::Global;
 use std::thread::Threads;
 

@@ -1,7 +1,7 @@
 //! Wrong bodies of which runs a table has.
 use buck_apt::Instruction;
 use buck_rule::NamedRule;
-use buck_sweep::combinations;
+use buckfleet_trial_sweep::combinations;
 use std::alloc::Global;
 
 /// A run is left out: two rules with two periods are four runs.

@@ -2,17 +2,17 @@
 ghost use Rattle.std.specs.Prelude.{◌≡◌, ◌≤◌, ◌++◌, ℕ, List, [], ◌∷◌, Some, Ok, codes, length, map};
 ghost use Rattle.buck_stem.specs.Stem.{StemParts};
 ghost use Rattle.buck_stem.specs.file.Stm.{stm_of};
-ghost use Rattle.buck_book.specs.History.{HistoryParts};
+ghost use Rattle.buck_book_postings.specs.History.{HistoryParts};
 ghost use Rattle.buck_rule.specs.declared.named.NamedRule.TheVariants.{Steady, Step};
-ghost use Rattle.buck_engine.specs.tie.Ties.{FollowsRule};
-ghost use Rattle.buck_engine.specs.fleet.Running.{AreFirsts};
-ghost use Rattle.buck_sweep.specs.Sweep.{IsLineOver};
-ghost use Rattle.buck_sweep.specs.Table.{IsLine, cells};
+ghost use Rattle.buckfleet_engine.specs.tie.Ties.{FollowsRule};
+ghost use Rattle.buckfleet_engine.specs.fleet.Running.{AreFirsts};
+ghost use Rattle.buckfleet_trial_sweep.specs.Sweep.{IsLineOver};
+ghost use Rattle.buckfleet_trial_sweep.specs.Table.{IsLine, cells};
 ghost use Rattle.wrong_sweep.specs.Texts.{HasGreatest, HasInstead, HasSwappedDegrees, HasSwappedVolumes, IsInForce, StandsIn, own_run};
 
-use buck_engine::EngineFault;
 use buck_rule::NamedRule;
-use buck_sweep::{Combination, Settings, run_sweep};
+use buckfleet_engine::EngineFault;
+use buckfleet_trial_sweep::{Combination, Settings, run_sweep};
 use std::alloc::Global;
 use std::io;
 

@@ -4,24 +4,24 @@ use Rattle.std.specs.Result.{is_err}
 use Rattle.buck_apt.specs.Apt.{apt_of}
 use Rattle.buck_apt.specs.Instruction.{InstructionParts}
 use Rattle.buck_apt.specs.Settings.{SettingsParts, with_settings}
-use Rattle.buck_book.specs.History.{IsLawful}
-use Rattle.buck_journal.specs.reading.Journal.{JournalParts, journal_of}
-use Rattle.buck_journal.specs.judging.Replay.{history_of}
-use Rattle.buck_figures.specs.Journals.{postings_of}
-use Rattle.buck_engine.specs.declared.fault.EngineFault.{EngineFault}
-use Rattle.buck_engine.specs.declared.fault.EngineFault.TheVariants.{Journal, JournalOf, Replay}
-use Rattle.buck_engine.specs.run.Reading.{apt_with}
-use Rattle.buck_engine.specs.run.Several.{AreLawful, HaveJournals, IsSeveralFault}
-use Rattle.buck_engine.specs.text.Written.{WritesText}
-use Rattle.buck_terms.specs.declared.fault.TermsFault.{TermsFault}
-use Rattle.buck_terms.specs.declared.fault.TermsFault.TheVariants.{Run}
-use Rattle.buck_terms.specs.Telling.{WritesTerms}
-use Rattle.buck_ledger.specs.declared.task.CompareTask.{CompareTask}
-use Rattle.buck_ledger.specs.declared.appraisal.Appraisal.{Appraisal}
-use Rattle.buck_ledger.specs.Appraisal.{IsAppraisal}
-use Rattle.buck_ledger.specs.Text.{appraisal_text, assortment_lines, columns, harvester_lines, whole_line}
+use Rattle.buck_book_postings.specs.History.{IsLawful}
+use Rattle.buck_book_journal.specs.reading.Journal.{JournalParts, journal_of}
+use Rattle.buck_book_journal.specs.judging.Replay.{history_of}
+use Rattle.buck_page_figures.specs.Journals.{postings_of}
+use Rattle.buckfleet_engine.specs.declared.fault.EngineFault.{EngineFault}
+use Rattle.buckfleet_engine.specs.declared.fault.EngineFault.TheVariants.{Journal, JournalOf, Replay}
+use Rattle.buckfleet_engine.specs.run.Reading.{apt_with}
+use Rattle.buckfleet_engine.specs.run.Several.{AreLawful, HaveJournals, IsSeveralFault}
+use Rattle.buckfleet_engine.specs.text.Written.{WritesText}
+use Rattle.buckfleet_terms_files.specs.declared.fault.TermsFault.{TermsFault}
+use Rattle.buckfleet_terms_files.specs.declared.fault.TermsFault.TheVariants.{Run}
+use Rattle.buckfleet_terms_files.specs.Telling.{WritesTerms}
+use Rattle.buckfleet_proceeds.specs.declared.task.CompareTask.{CompareTask}
+use Rattle.buckfleet_proceeds.specs.declared.appraisal.Appraisal.{Appraisal}
+use Rattle.buckfleet_proceeds.specs.Appraisal.{IsAppraisal}
+use Rattle.buckfleet_proceeds.specs.Text.{appraisal_text, assortment_lines, columns, harvester_lines, whole_line}
 use Rattle.wrong_trial.specs.Texts.{StandsIn}
-use Rattle.buck_ledger.specs.Serving.{AnswersAppraise, AnswersCompare, IsAppraiseFault}
+use Rattle.buckfleet_proceeds.specs.Serving.{AnswersAppraise, AnswersCompare, IsAppraiseFault}
 
 -- an appraisal is of a lawful journal
 of_one : (i : InstructionParts) (js : List JournalParts) (journal : List ℕ) → HaveJournals (Some journal ∷ []) js

@@ -5,11 +5,11 @@ use Rattle.std.proofs.lemmas.Bool.Decides.{nat_tests}
 use Rattle.std.proofs.lemmas.List.{length-map}
 use Rattle.std.proofs.lemmas.List.Sums.{sum-map}
 use Rattle.buck_value.specs.Sheet.{base_prices}
-use Rattle.buck_book.specs.declared.posting.Posting.{Posting}
-use Rattle.buck_book.specs.History.{HistoryParts, prices_at}
-use Rattle.buck_book.specs.Posting.{planned_version}
-use Rattle.buck_words.specs.Words.{half_up}
-use Rattle.buck_trial.specs.Tune.{price_sum, tuned, tuned_price}
+use Rattle.buck_book_postings.specs.declared.posting.Posting.{Posting}
+use Rattle.buck_book_postings.specs.History.{HistoryParts, prices_at}
+use Rattle.buck_book_postings.specs.Posting.{planned_version}
+use Rattle.buck_page_text.specs.Words.{half_up}
+use Rattle.buckfleet_trial.specs.Tune.{price_sum, tuned, tuned_price}
 
 some : (n : ℕ) → (suc n == 0) ≡ false
 some n = grind (arith, nat_tests)

@@ -2,8 +2,8 @@
 use Rattle.std.proofs.Common.{◌≡◌, ◌∙◌, ℕ, ◌<◌, List, [], ◌∷◌, ap, arith, get_or, length, map, refl, slice_index_or, sym}
 use Rattle.std.proofs.lemmas.List.{get_or-map, length-map}
 use Rattle.std.proofs.lemmas.List.Sorted.{length_permutation}
-use Rattle.buck_draws.specs.Draws.{order_of, shuffled, state_after}
-use Rattle.buck_draws.proofs.Permuted.{is_permutation}
+use Rattle.buckfleet_trial_draws.specs.Draws.{order_of, shuffled, state_after}
+use Rattle.buckfleet_trial_draws.proofs.Permuted.{is_permutation}
 
 -- of each list
 lengths : {X : Type 0} → (state : ℕ) (lists : List (List X))

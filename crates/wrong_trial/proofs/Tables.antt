@@ -10,21 +10,21 @@ use Rattle.buck_apt.specs.Wanted.{with_targets}
 use Rattle.buck_stem.specs.Stem.{StemParts}
 use Rattle.buck_stem.specs.declared.stem.Stem.{Stem}
 use Rattle.buck_stem.specs.file.Stm.{stm_of}
-use Rattle.buck_book.specs.History.{HistoryParts}
-use Rattle.buck_book.specs.Replies.{stems_at}
-use Rattle.buck_draws.specs.declared.orders.Draws.{Draws}
+use Rattle.buck_book_postings.specs.History.{HistoryParts}
+use Rattle.buck_book_postings.specs.Replies.{stems_at}
+use Rattle.buckfleet_trial_draws.specs.declared.orders.Draws.{Draws}
 use Rattle.buck_rule.specs.declared.named.NamedRule.{NamedRule}
-use Rattle.buck_engine.specs.declared.fault.EngineFault.{EngineFault}
-use Rattle.buck_engine.specs.declared.fault.EngineFault.TheVariants.{Full}
-use Rattle.buck_engine.specs.fleet.Running.{HaveTooMany, IsFleetFault}
-use Rattle.buck_sweep.specs.declared.combination.Combination.{Combination}
-use Rattle.buck_sweep.specs.Sweep.{AreLines}
-use Rattle.buck_sweep.specs.Table.{IsLine}
-use Rattle.buck_terms.specs.declared.fault.TermsFault.{TermsFault}
-use Rattle.buck_terms.specs.declared.fault.TermsFault.TheVariants.{Run, Targets}
-use Rattle.buck_terms.specs.Targets.{HasTargets}
-use Rattle.buck_trial.specs.Inputs.{IsTargetsStop, SaysInput}
-use Rattle.buck_trial.specs.Trial.{AreAllDrawn, AreSpreads, IsBestFor, IsTrial, IsTrialLine, IsTrialRun, drawn_head, starts_of}
+use Rattle.buckfleet_engine.specs.declared.fault.EngineFault.{EngineFault}
+use Rattle.buckfleet_engine.specs.declared.fault.EngineFault.TheVariants.{Full}
+use Rattle.buckfleet_engine.specs.fleet.Running.{HaveTooMany, IsFleetFault}
+use Rattle.buckfleet_trial_sweep.specs.declared.combination.Combination.{Combination}
+use Rattle.buckfleet_trial_sweep.specs.Sweep.{AreLines}
+use Rattle.buckfleet_trial_sweep.specs.Table.{IsLine}
+use Rattle.buckfleet_terms_files.specs.declared.fault.TermsFault.{TermsFault}
+use Rattle.buckfleet_terms_files.specs.declared.fault.TermsFault.TheVariants.{Run, Targets}
+use Rattle.buckfleet_terms_files.specs.Targets.{HasTargets}
+use Rattle.buckfleet_trial.specs.Inputs.{IsTargetsStop, SaysInput}
+use Rattle.buckfleet_trial.specs.Trial.{AreAllDrawn, AreSpreads, IsBestFor, IsTrial, IsTrialLine, IsTrialRun, drawn_head, starts_of}
 use Rattle.wrong_trial.specs.Texts.{StandsIn, own_run}
 
 -- the table that a run wrote, if it ended well

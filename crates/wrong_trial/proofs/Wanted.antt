@@ -8,15 +8,15 @@ use Rattle.std.specs.declared.alloc.Global.{Global}
 use Rattle.buck_apt.specs.Instruction.{InstructionParts}
 use Rattle.buck_apt.specs.Settings.{SettingsParts, with_settings}
 use Rattle.buck_stem.specs.declared.stem.Stem.{Stem}
-use Rattle.buck_book.specs.Posting.{opening_targets}
-use Rattle.buck_draws.specs.declared.orders.Draws.{Draws}
+use Rattle.buck_book_postings.specs.Posting.{opening_targets}
+use Rattle.buckfleet_trial_draws.specs.declared.orders.Draws.{Draws}
 use Rattle.buck_rule.specs.declared.named.NamedRule.{NamedRule}
-use Rattle.buck_terms.specs.declared.fault.TermsFault.{TermsFault}
-use Rattle.buck_terms.specs.Telling.{WritesTerms}
-use Rattle.buck_trial.specs.Inputs.{SaysInput}
-use Rattle.buck_trial.specs.Trial.{starts_of}
-use Rattle.buck_trial.specs.WishLine.{IsWishLine, whole_line, wishes_head}
-use Rattle.buck_trial.specs.Wishes.{AnswersWishes, AreRunsOf, AreUnsteered, IsTold, IsWishAt, IsWishesTable}
+use Rattle.buckfleet_terms_files.specs.declared.fault.TermsFault.{TermsFault}
+use Rattle.buckfleet_terms_files.specs.Telling.{WritesTerms}
+use Rattle.buckfleet_trial.specs.Inputs.{SaysInput}
+use Rattle.buckfleet_trial.specs.Trial.{starts_of}
+use Rattle.buckfleet_trial.specs.WishLine.{IsWishLine, whole_line, wishes_head}
+use Rattle.buckfleet_trial.specs.Wishes.{AnswersWishes, AreRunsOf, AreUnsteered, IsTold, IsWishAt, IsWishesTable}
 use Rattle.wrong_trial.specs.Texts.{StandsIn}
 
 -- what is made of one of a list, and its bytes among those of all

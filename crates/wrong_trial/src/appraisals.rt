@@ -1,20 +1,20 @@
 //! Wrong bodies of appraisals of journals under an owner's instruction.
 ghost use Rattle.std.specs.Prelude.{◌≡◌, ◌≢◌, ◌≤◌, List, [], All, length, sum_by};
 ghost use Rattle.buck_apt.specs.Instruction.{InstructionParts};
-ghost use Rattle.buck_book.specs.Counts.{assortment_logs_in};
-ghost use Rattle.buck_book.specs.History.{IsLawful};
-ghost use Rattle.buck_book.specs.declared.posting.Posting.{Posting};
-ghost use Rattle.buck_book.specs.declared.posting.TheConstants.{MOST_POSTINGS};
-ghost use Rattle.buck_journal.specs.judging.Replay.{history_of};
-ghost use Rattle.buck_figures.specs.Figures.{AreUnsteered, at_base_in, cuts_in, logs_in, volume_in};
-ghost use Rattle.buck_figures.specs.Journals.{postings_of};
-ghost use Rattle.buck_figures.specs.Owns.{own_of};
-ghost use Rattle.buck_terms.specs.Own.{HasShapeOf};
-ghost use Rattle.buck_ledger.specs.Paid.{AreAllBought};
+ghost use Rattle.buck_book_postings.specs.Counts.{assortment_logs_in};
+ghost use Rattle.buck_book_postings.specs.History.{IsLawful};
+ghost use Rattle.buck_book_postings.specs.declared.posting.Posting.{Posting};
+ghost use Rattle.buck_book_postings.specs.declared.posting.TheConstants.{MOST_POSTINGS};
+ghost use Rattle.buck_book_journal.specs.judging.Replay.{history_of};
+ghost use Rattle.buck_page_figures.specs.Figures.{AreUnsteered, at_base_in, cuts_in, logs_in, volume_in};
+ghost use Rattle.buck_page_figures.specs.Journals.{postings_of};
+ghost use Rattle.buck_page_figures.specs.Owns.{own_of};
+ghost use Rattle.buckfleet_terms_files.specs.Own.{HasShapeOf};
+ghost use Rattle.buckfleet_proceeds.specs.Paid.{AreAllBought};
 
 use buck_apt::Instruction;
-use buck_journal::Journal;
-use buck_ledger::appraise;
+use buck_book_journal::Journal;
+use buckfleet_proceeds::appraise;
 use std::alloc::Global;
 
 /// What the best cuttings bring is paid, and not what was cut and bought.

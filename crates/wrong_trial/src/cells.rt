@@ -1,5 +1,5 @@
 //! Wrong bodies of cells of a table.
-use buck_cells::{Change, put_change, put_number, put_spread, spread_of};
+use buck_page_cells::{Change, put_change, put_number, put_spread, spread_of};
 use std::alloc::Global;
 
 /// The mean of 1 and 2, 1.5, is rounded down.

@@ -1,10 +1,10 @@
 //! Wrong bodies of orders that are drawn by chance.
 ghost use Rattle.std.specs.Prelude.{◌≡◌, ◌≢◌, [], ◌∷◌, map};
 ghost use Rattle.std.specs.Arc.{arc_value};
-ghost use Rattle.buck_draws.specs.Draws.{state_behind};
+ghost use Rattle.buckfleet_trial_draws.specs.Draws.{state_behind};
 
-use buck_draws::{Draws, below, order_from, shuffle, starts_of};
 use buck_stem::Stem;
+use buckfleet_trial_draws::{Draws, below, order_from, shuffle, starts_of};
 use rand_core::SeedableRng;
 use rand_xoshiro::SplitMix64;
 use std::alloc::Global;

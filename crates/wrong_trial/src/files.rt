@@ -2,16 +2,16 @@
 ghost use Rattle.std.specs.Prelude.{◌≡◌, IfSome, List, Ok, Some, ℕ};
 ghost use Rattle.buck_apt.specs.Apt.{apt_of};
 ghost use Rattle.buck_apt.specs.Instruction.{InstructionParts};
-ghost use Rattle.buck_terms.specs.Targets.{HasTargets};
-ghost use Rattle.buck_trial.specs.Inputs.{held_with};
+ghost use Rattle.buckfleet_terms_files.specs.Targets.{HasTargets};
+ghost use Rattle.buckfleet_trial.specs.Inputs.{held_with};
 
 use buck_apt::Instruction;
-use buck_engine::{EngineFault, Nobody, Open};
-use buck_terms::{
+use buckfleet_engine::{EngineFault, Nobody, Open};
+use buckfleet_terms_files::{
     TargetsFault, TermsFault, conclude_terms, open_last, open_more, read_own, read_wanted, status,
     write_terms_fault,
 };
-use buck_trial::{Opened, OwnedFiles, TrialTask, run_owned};
+use buckfleet_trial::{Opened, OwnedFiles, TrialTask, run_owned};
 use std::alloc::Global;
 use std::thread::Threads;
 

@@ -3,21 +3,21 @@ ghost use Rattle.std.specs.Prelude.{◌≡◌, ◌≢◌, ◌<◌, List, [], ◌
 ghost use Rattle.buck_apt.specs.Apt.{apt_of};
 ghost use Rattle.buck_apt.specs.Instruction.{InstructionParts};
 ghost use Rattle.buck_apt.specs.Settings.{with_settings};
-ghost use Rattle.buck_book.specs.History.{IsLawful};
-ghost use Rattle.buck_book.specs.declared.posting.TheConstants.{MOST_POSTINGS};
-ghost use Rattle.buck_journal.specs.reading.Journal.{JournalParts, journal_of};
-ghost use Rattle.buck_journal.specs.judging.Replay.{history_of};
-ghost use Rattle.buck_figures.specs.Journals.{postings_of};
-ghost use Rattle.buck_engine.specs.run.Reading.{apt_with};
-ghost use Rattle.buck_engine.specs.run.Several.{HaveJournals};
-ghost use Rattle.buck_ledger.specs.Appraisal.{IsAppraisal};
-ghost use Rattle.buck_ledger.specs.Text.{whole_line};
-ghost use Rattle.buck_ledger.specs.declared.appraisal.Appraisal.{Appraisal};
+ghost use Rattle.buck_book_postings.specs.History.{IsLawful};
+ghost use Rattle.buck_book_postings.specs.declared.posting.TheConstants.{MOST_POSTINGS};
+ghost use Rattle.buck_book_journal.specs.reading.Journal.{JournalParts, journal_of};
+ghost use Rattle.buck_book_journal.specs.judging.Replay.{history_of};
+ghost use Rattle.buck_page_figures.specs.Journals.{postings_of};
+ghost use Rattle.buckfleet_engine.specs.run.Reading.{apt_with};
+ghost use Rattle.buckfleet_engine.specs.run.Several.{HaveJournals};
+ghost use Rattle.buckfleet_proceeds.specs.Appraisal.{IsAppraisal};
+ghost use Rattle.buckfleet_proceeds.specs.Text.{whole_line};
+ghost use Rattle.buckfleet_proceeds.specs.declared.appraisal.Appraisal.{Appraisal};
 ghost use Rattle.wrong_trial.specs.Texts.{StandsIn};
 
-use buck_engine::{EngineFault, Nobody, SeveralThreads};
-use buck_ledger::{AppraiseTask, CompareTask, Opened, run_appraise, run_compare};
-use buck_terms::TermsFault;
+use buckfleet_engine::{EngineFault, Nobody, SeveralThreads};
+use buckfleet_proceeds::{AppraiseTask, CompareTask, Opened, run_appraise, run_compare};
+use buckfleet_terms_files::TermsFault;
 use std::alloc::Global;
 use std::thread::Threads;
 

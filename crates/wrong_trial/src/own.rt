@@ -2,7 +2,7 @@
 ghost use Rattle.std.specs.Prelude.{◌≡◌};
 
 use buck_apt::{Instruction, Settings};
-use buck_terms::{OwnFault, shape_fault};
+use buckfleet_terms_files::{OwnFault, shape_fault};
 
 /// A trim that differs is accepted.
 pub fn own_with_another_trim_accepted(instruction: &Instruction, own: &Instruction) {

@@ -1,9 +1,9 @@
 //! Wrong bodies of whole runs of trials, appraisals and comparisons: which files are opened, and what is written then.
 ghost use Rattle.std.specs.Prelude.{◌≡◌, length, None};
 
-use buck_engine::{Nobody, Open, Settings};
-use buck_ledger::{AppraiseTask, CompareTask, serve_appraise, serve_compare};
-use buck_trial::{TrialTask, serve_trial};
+use buckfleet_engine::{Nobody, Open, Settings};
+use buckfleet_proceeds::{AppraiseTask, CompareTask, serve_appraise, serve_compare};
+use buckfleet_trial::{TrialTask, serve_trial};
 use std::alloc::Global;
 use std::thread::Threads;
 

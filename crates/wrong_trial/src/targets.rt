@@ -1,10 +1,10 @@
 //! Wrong bodies of the reader of a file of targets.
-#![tactic(auto, unfolding(buck_record::specs::bytes::Record::numbers_of, buck_record::specs::bytes::Record::number_at_most, buck_record::specs::bytes::Record::item_of, buck_record::specs::bytes::Record::items_of, buck_record::specs::bytes::White::words, buck_record::specs::bytes::White::first_word, buck_record::specs::bytes::White::after_word, buck_record::specs::bytes::White::trim_start, buck_record::specs::bytes::White::trim_end, buck_record::specs::Reading::each_from, buck_terms::specs::Targets::lists_from, buck_terms::specs::Targets::lists_of, buck_terms::specs::Targets::all_of))]
+#![tactic(auto, unfolding(buck_record::specs::bytes::Record::numbers_of, buck_record::specs::bytes::Record::number_at_most, buck_record::specs::bytes::Record::item_of, buck_record::specs::bytes::Record::items_of, buck_record::specs::bytes::White::words, buck_record::specs::bytes::White::first_word, buck_record::specs::bytes::White::after_word, buck_record::specs::bytes::White::trim_start, buck_record::specs::bytes::White::trim_end, buck_record::specs::Reading::each_from, buckfleet_terms_files::specs::Targets::lists_from, buckfleet_terms_files::specs::Targets::lists_of, buckfleet_terms_files::specs::Targets::all_of))]
 
-ghost use Rattle.buck_book.specs.Targets.{IsLowSumAt};
+ghost use Rattle.buck_book_postings.specs.Targets.{IsLowSumAt};
 
 use buck_apt::Instruction;
-use buck_terms::{TargetsFault, all_numbers, targets_in};
+use buckfleet_terms_files::{TargetsFault, all_numbers, targets_in};
 use std::alloc::Global;
 
 /// Targets of the first assortment that are together above 1,000,000,000 are accepted.

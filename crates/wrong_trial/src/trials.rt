@@ -9,17 +9,17 @@ ghost use Rattle.buck_apt.specs.Wanted.{with_targets};
 ghost use Rattle.buck_stem.specs.Stem.{StemParts};
 ghost use Rattle.buck_stem.specs.declared.stem.Stem.{Stem};
 ghost use Rattle.buck_stem.specs.file.Stm.{stm_of};
-ghost use Rattle.buck_book.specs.History.{HistoryParts};
+ghost use Rattle.buck_book_postings.specs.History.{HistoryParts};
 ghost use Rattle.buck_rule.specs.declared.named.NamedRule.TheVariants.{Steady, Step};
-ghost use Rattle.buck_sweep.specs.Table.{IsLine};
-ghost use Rattle.buck_terms.specs.Targets.{HasTargets};
-ghost use Rattle.buck_trial.specs.Inputs.{SaysInput, held_with};
-ghost use Rattle.buck_trial.specs.Trial.{AreAllDrawn, AreSpreads, IsBestFor, starts_of};
+ghost use Rattle.buckfleet_trial_sweep.specs.Table.{IsLine};
+ghost use Rattle.buckfleet_terms_files.specs.Targets.{HasTargets};
+ghost use Rattle.buckfleet_trial.specs.Inputs.{SaysInput, held_with};
+ghost use Rattle.buckfleet_trial.specs.Trial.{AreAllDrawn, AreSpreads, IsBestFor, starts_of};
 ghost use Rattle.wrong_trial.specs.Texts.{StandsIn, own_run};
 
-use buck_engine::{EngineFault, Nobody};
-use buck_terms::TermsFault;
-use buck_trial::{Opened, TrialTask, run_trial_in_parts};
+use buckfleet_engine::{EngineFault, Nobody};
+use buckfleet_terms_files::TermsFault;
+use buckfleet_trial::{Opened, TrialTask, run_trial_in_parts};
 use std::alloc::Global;
 use std::thread::Threads;
 

@@ -3,16 +3,16 @@ ghost use Rattle.std.specs.Prelude.{◌≡◌, ◌≢◌, ◌∷◌, [], Ok, IfS
 ghost use Rattle.buck_apt.specs.Apt.{apt_of};
 ghost use Rattle.buck_apt.specs.Instruction.{InstructionParts};
 ghost use Rattle.buck_value.specs.Sheet.{base_prices};
-ghost use Rattle.buck_book.specs.History.{prices_at};
-ghost use Rattle.buck_book.specs.Posting.{planned_version};
-ghost use Rattle.buck_terms.specs.Targets.{lists_of};
-ghost use Rattle.buck_trial.specs.Inputs.{held_with};
-ghost use Rattle.buck_trial.specs.Tune.{tuned_price};
+ghost use Rattle.buck_book_postings.specs.History.{prices_at};
+ghost use Rattle.buck_book_postings.specs.Posting.{planned_version};
+ghost use Rattle.buckfleet_terms_files.specs.Targets.{lists_of};
+ghost use Rattle.buckfleet_trial.specs.Inputs.{held_with};
+ghost use Rattle.buckfleet_trial.specs.Tune.{tuned_price};
 
 use buck_apt::read_apt;
-use buck_book::Parts;
-use buck_engine::Nobody;
-use buck_trial::{Opened, TuneTask, run_tune, tuned_prices};
+use buck_book_postings::Parts;
+use buckfleet_engine::Nobody;
+use buckfleet_trial::{Opened, TuneTask, run_tune, tuned_prices};
 use std::alloc::Global;
 
 /// The base price that a history tunes for a class.

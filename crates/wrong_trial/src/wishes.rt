@@ -6,16 +6,16 @@ ghost use Rattle.std.specs.declared.alloc.Global.{Global};
 ghost use Rattle.buck_apt.specs.Instruction.{InstructionParts};
 ghost use Rattle.buck_apt.specs.Settings.{with_settings};
 ghost use Rattle.buck_stem.specs.declared.stem.Stem.{Stem};
-ghost use Rattle.buck_book.specs.Posting.{opening_targets};
-ghost use Rattle.buck_trial.specs.Inputs.{SaysInput, held_with};
-ghost use Rattle.buck_trial.specs.Trial.{starts_of};
-ghost use Rattle.buck_trial.specs.WishLine.{IsWishLine, whole_line};
-ghost use Rattle.buck_trial.specs.Wishes.{AreRunsOf, AreUnsteered, IsWishAt};
+ghost use Rattle.buck_book_postings.specs.Posting.{opening_targets};
+ghost use Rattle.buckfleet_trial.specs.Inputs.{SaysInput, held_with};
+ghost use Rattle.buckfleet_trial.specs.Trial.{starts_of};
+ghost use Rattle.buckfleet_trial.specs.WishLine.{IsWishLine, whole_line};
+ghost use Rattle.buckfleet_trial.specs.Wishes.{AreRunsOf, AreUnsteered, IsWishAt};
 ghost use Rattle.wrong_trial.specs.Texts.{StandsIn};
 
-use buck_engine::{EngineFault, Nobody};
-use buck_terms::TermsFault;
-use buck_trial::{Opened, WishesTask, run_wishes_in_parts};
+use buckfleet_engine::{EngineFault, Nobody};
+use buckfleet_terms_files::TermsFault;
+use buckfleet_trial::{Opened, WishesTask, run_wishes_in_parts};
 use std::alloc::Global;
 use std::thread::Threads;
 

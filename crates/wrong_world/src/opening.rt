@@ -1,11 +1,11 @@
 //! Wrong bodies of new worlds, and of what is asked of a world.
 ghost use Rattle.std.specs.Prelude.{◌≡◌, ◌≢◌, []};
-ghost use Rattle.buck_book.specs.History.{version_of};
-ghost use Rattle.buck_world.specs.World.{IsHarvester, at};
+ghost use Rattle.buck_book_postings.specs.History.{version_of};
+ghost use Rattle.buck_fleet_world.specs.World.{IsHarvester, at};
 
 use buck_apt::Instruction;
+use buck_fleet_world::{Memory, Stage, World};
 use buck_rule::{Rule, Standing};
-use buck_world::{Memory, Stage, World};
 use std::alloc::Global;
 use std::sync::Arc;
 

@@ -1,13 +1,13 @@
 //! Wrong bodies of events that are let in, or refused as something else.
 ghost use Rattle.std.specs.Prelude.{◌≡◌, ◌<◌, length};
 ghost use Rattle.buck_rule.specs.Stored.{Answers};
-ghost use Rattle.buck_world.specs.World.{IsHarvester, IsAnswered, at};
-ghost use Rattle.buck_world.specs.Step.{IsPlanned};
-ghost use Rattle.buck_world.specs.Refused.{IsFull, IsBelow};
+ghost use Rattle.buck_fleet_world.specs.World.{IsHarvester, IsAnswered, at};
+ghost use Rattle.buck_fleet_world.specs.Step.{IsPlanned};
+ghost use Rattle.buck_fleet_world.specs.Refused.{IsFull, IsBelow};
 
+use buck_fleet_world::{Event, Stage, StepFault, World};
 use buck_rule::Standing;
 use buck_stem::Stem;
-use buck_world::{Event, Stage, StepFault, World};
 use std::alloc::Global;
 use std::sync::Arc;
 

@@ -1,12 +1,12 @@
 //! Wrong bodies of events that are answered `Ok`: what they leave in the world.
 ghost use Rattle.std.specs.Prelude.{◌≡◌, ◌≢◌, ◌<◌};
 ghost use Rattle.buck_rule.specs.Stored.{Answers};
-ghost use Rattle.buck_book.specs.History.{version_of};
-ghost use Rattle.buck_world.specs.World.{IsHarvester, at};
+ghost use Rattle.buck_book_postings.specs.History.{version_of};
+ghost use Rattle.buck_fleet_world.specs.World.{IsHarvester, at};
 
+use buck_fleet_world::{Event, Stage, World};
 use buck_rule::Standing;
 use buck_stem::Stem;
-use buck_world::{Event, Stage, World};
 use std::alloc::Global;
 use std::sync::Arc;
 

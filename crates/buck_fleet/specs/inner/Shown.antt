@@ -4,7 +4,7 @@ use Rattle.buck_value.specs.Sheet.{SheetParts}
 use Rattle.buck_board.specs.declared.board.Board.{Board}
 use Rattle.buck_board.specs.declared.put_up.PutUp.{PutUp}
 use Rattle.buck_board.specs.Board.{IsPutUpOn, sheet_put_up}
-use Rattle.buck_book.specs.History.{HistoryParts, sheets_with}
+use Rattle.buck_book_postings.specs.History.{HistoryParts, sheets_with}
 
 -- a next sheet, if there is one, was put up on a board
 abbrev pub IsShown : Board → Option SheetParts → Option PutUp → Type 0

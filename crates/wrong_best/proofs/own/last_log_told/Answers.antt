@@ -1,6 +1,6 @@
 use Rattle.std.proofs.Common.{arith}
-use Rattle.buck_own.specs.declared.reason.Reason.TheVariants.{Species}
-use Rattle.buck_own.specs.Judged.{AppliesAt}
+use Rattle.buck_dp_own_logs.specs.declared.reason.Reason.TheVariants.{Species}
+use Rattle.buck_dp_own_logs.specs.Judged.{AppliesAt}
 use Rattle.wrong_best.proofs.own.last_log_told.Goals as goal
 
 pub prove-unreachable-requires : goal.prove-unreachable-requires

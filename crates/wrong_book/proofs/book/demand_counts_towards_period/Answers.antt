@@ -1,6 +1,6 @@
 use Rattle.std.proofs.Common.{◌≡◌, [], ◌∷◌, None, rules}
-use Rattle.buck_book.specs.declared.posting.Posting.TheVariants.{Cut, Demand}
-use Rattle.buck_book.specs.Book.{entry_of}
+use Rattle.buck_book_postings.specs.declared.posting.Posting.TheVariants.{Cut, Demand}
+use Rattle.buck_book_postings.specs.Book.{entry_of}
 use Rattle.wrong_book.proofs.Plans.{no_sheet, no_end_after_demand}
 use Rattle.wrong_book.proofs.book.demand_counts_towards_period.Goals as goal
 

@@ -1,9 +1,9 @@
 use Rattle.std.proofs.Common.{◌≡◌, slice_index, Some, IfSome, subst, rules}
 use Rattle.std.specs.Fn.{FnReturnsAt}
 use Rattle.buck_apt.specs.Instruction.{index_of}
-use Rattle.buck_book.specs.History.{standing_of}
-use Rattle.buck_book.specs.Pricing.{AreAnswersWith}
-use Rattle.buck_book.specs.Book.{postings_with}
+use Rattle.buck_book_postings.specs.History.{standing_of}
+use Rattle.buck_book_postings.specs.Pricing.{AreAnswersWith}
+use Rattle.buck_book_postings.specs.Book.{postings_with}
 use Rattle.wrong_book.proofs.book.next_sheet_without_new_entry.Goals as goal
 
 pub prove-unreachable-requires : goal.prove-unreachable-requires

@@ -1,7 +1,7 @@
 use Rattle.std.proofs.Common.{◌≡◌, None, arith, rules}
-use Rattle.buck_book.specs.declared.posting.Posting.TheVariants.{Cut}
-use Rattle.buck_book.specs.History.{IsEnd}
-use Rattle.buck_book.specs.Book.{entry_of}
+use Rattle.buck_book_postings.specs.declared.posting.Posting.TheVariants.{Cut}
+use Rattle.buck_book_postings.specs.History.{IsEnd}
+use Rattle.buck_book_postings.specs.Book.{entry_of}
 use Rattle.wrong_book.proofs.Plans.{a_sheet}
 use Rattle.wrong_book.proofs.book.no_next_sheet.Goals as goal
 

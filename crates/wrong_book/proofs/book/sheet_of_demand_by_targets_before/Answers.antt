@@ -1,8 +1,8 @@
 use Rattle.std.proofs.Common.{◌≡◌, slice_index, subst, rules}
 use Rattle.std.specs.Fn.{FnReturnsAt}
 use Rattle.buck_apt.specs.Instruction.{index_of}
-use Rattle.buck_book.specs.History.{standing_of}
-use Rattle.buck_book.specs.Book.{postings_with_demand}
+use Rattle.buck_book_postings.specs.History.{standing_of}
+use Rattle.buck_book_postings.specs.Book.{postings_with_demand}
 use Rattle.wrong_book.proofs.book.sheet_of_demand_by_targets_before.Goals as goal
 
 pub prove-unreachable-requires : goal.prove-unreachable-requires

@@ -1,5 +1,5 @@
 use Rattle.std.proofs.Common.{rules}
-use Rattle.buck_book.specs.History.{IsLawful}
+use Rattle.buck_book_postings.specs.History.{IsLawful}
 use Rattle.wrong_book.proofs.Lawful.{made, told, sheet_after}
 use Rattle.wrong_book.proofs.replaying.last_sheet_not_looked_at.Goals as goal
 

@@ -1,6 +1,6 @@
 use Rattle.std.proofs.Common.{[], arith, rules}
-use Rattle.buck_book.specs.declared.posting.Posting.TheVariants.{Cut}
-use Rattle.buck_book.specs.History.{IsLawful}
+use Rattle.buck_book_postings.specs.declared.posting.Posting.TheVariants.{Cut}
+use Rattle.buck_book_postings.specs.History.{IsLawful}
 use Rattle.wrong_book.proofs.Lawful.{made, told, first_follows}
 use Rattle.wrong_book.proofs.replaying.later_version_taken.Goals as goal
 

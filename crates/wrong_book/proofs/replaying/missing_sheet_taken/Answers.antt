@@ -1,5 +1,5 @@
 use Rattle.std.proofs.Common.{arith, rules}
-use Rattle.buck_book.specs.History.{IsLawful}
+use Rattle.buck_book_postings.specs.History.{IsLawful}
 use Rattle.wrong_book.proofs.Lawful.{made}
 use Rattle.wrong_book.proofs.replaying.missing_sheet_taken.Goals as goal
 

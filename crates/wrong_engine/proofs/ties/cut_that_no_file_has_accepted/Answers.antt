@@ -4,14 +4,14 @@ use Rattle.std.specs.Result.{is_err}
 use Rattle.std.proofs.lemmas.List.{get_or_past}
 use Rattle.buck_apt.specs.Instruction.{InstructionParts}
 use Rattle.buck_rule.specs.declared.named.NamedRule.{NamedRule}
-use Rattle.buck_book.proofs.Ends.{true_false}
-use Rattle.buck_journal.specs.reading.Journal.{JournalParts, journal_of}
-use Rattle.buck_journal.specs.judging.Replay.{history_of}
-use Rattle.buck_engine.specs.declared.fault.EngineFault.{EngineFault}
-use Rattle.buck_engine.specs.run.Reading.{ReadsApt, apt_with}
-use Rattle.buck_engine.specs.text.Written.{WritesText}
-use Rattle.buck_engine.specs.tie.Answers.{AnswersCheckWith}
-use Rattle.buck_engine.specs.tie.Ties.{stems_by}
+use Rattle.buck_book_postings.proofs.Ends.{true_false}
+use Rattle.buck_book_journal.specs.reading.Journal.{JournalParts, journal_of}
+use Rattle.buck_book_journal.specs.judging.Replay.{history_of}
+use Rattle.buckfleet_engine.specs.declared.fault.EngineFault.{EngineFault}
+use Rattle.buckfleet_engine.specs.run.Reading.{ReadsApt, apt_with}
+use Rattle.buckfleet_engine.specs.text.Written.{WritesText}
+use Rattle.buckfleet_engine.specs.tie.Answers.{AnswersCheckWith}
+use Rattle.buckfleet_engine.specs.tie.Ties.{stems_by}
 use Rattle.wrong_engine.proofs.ties.cut_that_no_file_has_accepted.Goals as goal
 
 no_file : (reads : ReadsApt) (rule : Option NamedRule) (apt journal : List ℕ) (stm old new : Option (List ℕ))

@@ -1,5 +1,5 @@
 use Rattle.std.proofs.Common.{rules, ◌≡◌, ◌∙◌, [], true, sym}
-use Rattle.buck_book.proofs.Ends.{true_false}
+use Rattle.buck_book_postings.proofs.Ends.{true_false}
 use Rattle.wrong_engine.proofs.Several.{refused_unwritten}
 use Rattle.wrong_engine.proofs.views.table_of_two_written_before_the_fault.Goals as goal
 

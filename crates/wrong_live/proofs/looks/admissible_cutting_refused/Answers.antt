@@ -1,5 +1,5 @@
 use Rattle.std.proofs.Common.{rules, ◌≡◌, [], Some, Ok, codes}
-use Rattle.buck_live.specs.Live.{IsLiveRun}
+use Rattle.buckfleet_live.specs.Live.{IsLiveRun}
 use Rattle.wrong_live.proofs.Looked.{refused_though_admissible}
 use Rattle.wrong_live.proofs.looks.admissible_cutting_refused.Goals as goal
 

@@ -1,5 +1,5 @@
 use Rattle.std.proofs.Common.{rules, ◌≡◌, [], Some, Ok, codes}
-use Rattle.buck_live.specs.Live.{IsLiveRun}
+use Rattle.buckfleet_live.specs.Live.{IsLiveRun}
 use Rattle.wrong_live.proofs.Looked.{named_later}
 use Rattle.wrong_live.proofs.looks.later_reason_named.Goals as goal
 

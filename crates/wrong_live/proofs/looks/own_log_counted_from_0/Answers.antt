@@ -1,5 +1,5 @@
 use Rattle.std.proofs.Common.{rules, ◌≡◌, [], Some, Ok, codes}
-use Rattle.buck_live.specs.Live.{IsLiveRun}
+use Rattle.buckfleet_live.specs.Live.{IsLiveRun}
 use Rattle.wrong_live.proofs.Looked.{counted_from_0}
 use Rattle.wrong_live.proofs.looks.own_log_counted_from_0.Goals as goal
 

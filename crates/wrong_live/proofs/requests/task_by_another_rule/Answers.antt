@@ -1,7 +1,7 @@
 use Rattle.std.proofs.Common.{rules, ◌≡◌, ◌∙◌, ℕ, List, [], Some, Ok, sym, subst}
-use Rattle.buck_engine.specs.tie.Ties.{FollowsRule}
-use Rattle.buck_cutter.specs.Cut.{opening}
-use Rattle.buck_live.specs.Live.{IsLiveRun}
+use Rattle.buckfleet_engine.specs.tie.Ties.{FollowsRule}
+use Rattle.buck_book_cutter.specs.Cut.{opening}
+use Rattle.buckfleet_live.specs.Live.{IsLiveRun}
 use Rattle.wrong_live.proofs.Ruled.{answered}
 use Rattle.wrong_live.proofs.requests.task_by_another_rule.Goals as goal
 

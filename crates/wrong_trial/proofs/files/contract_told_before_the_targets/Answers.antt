@@ -1,15 +1,15 @@
 use Rattle.std.proofs.Common.{◌≡◌, ◌⊎◌, ℕ, List, inl, inr, Option, Some, Result, Ok, Err, rules, subst}
 use Rattle.buck_apt.specs.Apt.{apt_of}
 use Rattle.buck_apt.specs.Instruction.{InstructionParts}
-use Rattle.buck_draws.specs.declared.orders.Draws.{Draws}
-use Rattle.buck_sweep.specs.declared.combination.Combination.{Combination}
-use Rattle.buck_terms.specs.declared.fault.OwnFault.{OwnFault}
-use Rattle.buck_terms.specs.declared.fault.TermsFault.{TermsFault}
-use Rattle.buck_terms.specs.declared.fault.TermsFault.TheVariants.{Own}
-use Rattle.buck_terms.specs.Targets.{HasTargets}
-use Rattle.buck_terms.specs.Telling.{WritesTerms}
-use Rattle.buck_trial.specs.Inputs.{IsInputFault}
-use Rattle.buck_trial.specs.Owned.{AnswersOwned, IsOwnStop}
+use Rattle.buckfleet_trial_draws.specs.declared.orders.Draws.{Draws}
+use Rattle.buckfleet_trial_sweep.specs.declared.combination.Combination.{Combination}
+use Rattle.buckfleet_terms_files.specs.declared.fault.OwnFault.{OwnFault}
+use Rattle.buckfleet_terms_files.specs.declared.fault.TermsFault.{TermsFault}
+use Rattle.buckfleet_terms_files.specs.declared.fault.TermsFault.TheVariants.{Own}
+use Rattle.buckfleet_terms_files.specs.Targets.{HasTargets}
+use Rattle.buckfleet_terms_files.specs.Telling.{WritesTerms}
+use Rattle.buckfleet_trial.specs.Inputs.{IsInputFault}
+use Rattle.buckfleet_trial.specs.Owned.{AnswersOwned, IsOwnStop}
 use Rattle.wrong_trial.proofs.files.contract_told_before_the_targets.Goals as goal
 
 -- a contract isn't, if the file of targets is refused

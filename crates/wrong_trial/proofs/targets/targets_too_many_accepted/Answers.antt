@@ -1,5 +1,5 @@
 use Rattle.std.proofs.Common.{◌≡◌, List, ℕ, rules, subst}
-use Rattle.buck_book.specs.Targets.{IsLowSumAt}
+use Rattle.buck_book_postings.specs.Targets.{IsLowSumAt}
 use Rattle.wrong_trial.proofs.targets.targets_too_many_accepted.Goals as goal
 
 pub prove-unreachable-requires : goal.prove-unreachable-requires

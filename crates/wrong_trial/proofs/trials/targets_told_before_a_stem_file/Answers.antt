@@ -1,5 +1,5 @@
 use Rattle.std.proofs.Common.{◌≡◌, Err, Some, rules}
-use Rattle.buck_terms.specs.declared.fault.TermsFault.TheVariants.{Targets}
+use Rattle.buckfleet_terms_files.specs.declared.fault.TermsFault.TheVariants.{Targets}
 use Rattle.wrong_trial.proofs.Tables.{targets_not_told}
 use Rattle.wrong_trial.proofs.trials.targets_told_before_a_stem_file.Goals as goal
 

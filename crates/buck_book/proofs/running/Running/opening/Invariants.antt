@@ -1,5 +1,0 @@
-use Rattle.buck_book.proofs.Words.{◌≡◌, take, flat_map}
-use Rattle.buck_book.proofs.running.Running.opening.Given as goal
-
-abbrev pub invariant-loop-assortment : goal.invariant-loop-assortment
-invariant-loop-assortment l = l.targets.items ≡ flat_map (λ a. a.targets) (take l.assortment-index l.assortment-items)

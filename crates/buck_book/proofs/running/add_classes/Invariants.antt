@@ -1,6 +1,0 @@
-use Rattle.buck_book.proofs.Words.{take, AreGrownAt, class_place}
-use Rattle.buck_book.proofs.running.add_classes.Given as goal
-
-abbrev pub invariant-loop-log : goal.invariant-loop-log
-invariant-loop-log l =
-    AreGrownAt (class_place l.sheet.instruction l.stem) l.fn.counts.items (take l.log-index l.logs) l.counts.items

@@ -1,7 +1,0 @@
-use Rattle.buck_book.proofs.Words.{arith, slice_get-get_or}
-use Rattle.buck_book.proofs.Standings.{before_next}
-use Rattle.buck_book.proofs.Wanted.{low_more}
-use Rattle.buck_book.proofs.targets.check_targets.Goals as goal
-
-pub loop-at-preserved : goal.loop-at-preserved
-loop-at-preserved c = grind (arith, slice_get-get_or, before_next, low_more)

@@ -1,0 +1,14 @@
+pub mod Entry
+pub mod Posting
+pub mod Plan
+pub mod Targets
+pub mod Counts
+pub mod History
+pub mod CutsAlone
+pub mod Pricing
+pub mod Book
+pub mod Refused
+pub mod Replies
+pub mod Walk
+pub mod inner
+pub mod Degree

@@ -1,0 +1,8 @@
+use Rattle.buck_record.specs.Reading.{listed}
+use Rattle.buck_c_calls.proofs.Ran.{told}
+use Rattle.buck_c_calls.proofs.trials.buckfleet_wishes.Goals as goal
+
+pub returns : goal.returns
+returns c =
+    told _ _ c.args.lengths.now c.args.files.now (listed c.wished-answer.result) _ _ _ _ c.wished-answer.ensures
+    c.put_answer.ensures

@@ -1,8 +1,0 @@
-use Rattle.buck_record.specs.Reading.{listed}
-use Rattle.buck_calls.proofs.Ran.{told}
-use Rattle.buck_calls.proofs.trials.buckfleet_sweep.Goals as goal
-
-pub returns : goal.returns
-returns c =
-    told _ _ c.args.lengths.now c.args.files.now (listed c.swept-answer.result) _ _ _ _ c.swept-answer.ensures
-    c.put_answer.ensures

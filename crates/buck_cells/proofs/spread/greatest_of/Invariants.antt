@@ -1,6 +1,0 @@
-use Rattle.std.proofs.Common.{take}
-use Rattle.buck_cells.specs.Spread.{IsGreatest}
-use Rattle.buck_cells.proofs.spread.greatest_of.Given as goal
-
-abbrev pub invariant-loop-change : goal.invariant-loop-change
-invariant-loop-change l = IsGreatest (take l.change-index l.changes) l.greatest

@@ -1,8 +1,0 @@
-use Rattle.buck_journal.specs.judging.Replay.{history_of}
-use Rattle.buck_engine.proofs.LastSheet.{number_given}
-use Rattle.buck_engine.proofs.run.reporting.last_prices.Goals as goal
-
-pub returns-clause-number : goal.returns-clause-number
-returns-clause-number c =
-    number_given (history_of c.args.instruction.now c.args.journal.now)
-    c.assortments-valid.ensures.valid c.requires.lawful c.prices_in.result.now c.prices_in.ensures

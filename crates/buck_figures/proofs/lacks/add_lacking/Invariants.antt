@@ -1,7 +1,0 @@
-use Rattle.buck_figures.specs.inner.Lacking.{AreLacksBefore}
-use Rattle.buck_figures.proofs.lacks.add_lacking.Given as goal
-
-abbrev pub invariant-loop-class : goal.invariant-loop-class
-invariant-loop-class l =
-    AreLacksBefore l.figures.instruction.now l.figures.targets.value.items l.figures.counts.items
-    l.figures.unsteered.items l.at l.class l.found.items

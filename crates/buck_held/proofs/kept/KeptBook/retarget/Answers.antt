@@ -1,8 +1,0 @@
-use Rattle.std.proofs.Common.{rules}
-use Rattle.buck_held.proofs.Ruled.{retargeted_by}
-use Rattle.buck_held.proofs.kept.KeptBook.retarget.Goals as goal
-
-pub returns-clause-retargeted : goal.returns-clause-retargeted
-returns-clause-retargeted c =
-    retargeted_by _ _ c.args.self.now.rule c.args.harvester _ _ _ _ _ _ (search rules) (search rules) (search rules)
-    c.retarget-demand.ensures.retargeted

@@ -1,0 +1,53 @@
+//! The page that a mill opens.
+ghost use Rattle.buck_page_figures.specs.Shown.{IsShown};
+
+use crate::assortment::write_assortment;
+use crate::degrees::write_degrees;
+use crate::harvesters::{write_costs, write_harvesters};
+use crate::lacking::write_lacking;
+use crate::notes::write_notes;
+use crate::opening::write_opening;
+use crate::targets::write_targets;
+use crate::wood::write_wood_section;
+use buck_dp::Planner;
+use buck_page_drawings::write_stems;
+use buck_page_fault::{Files, close_head, open_head};
+use buck_page_figures::{Figures, grade_free_of};
+use buck_record::Memory;
+use std::alloc::Global;
+
+/// Returns the page of lawful journals, given their figures, a planner at base prices and the names of the files. It
+/// holds no date and loads nothing: what is the same gives the same page. Refused as `Memory` alone.
+pub fn page(
+    alloc: Global,
+    figures: &Figures<'_>,
+    planner: &mut Planner,
+    files: &Files<'_>,
+) -> Result<String, Memory>
+    requires { IsShown figures.now planner.old }
+{
+    let mut out = String::new(alloc);
+    open_head(&mut out)?;
+    write!(
+        &mut out,
+        "{} stems, {} logs",
+        figures.total.stems, figures.total.logs
+    )?;
+    close_head(&mut out)?;
+    write_opening(&mut out, figures, files)?;
+    write!(&mut out, "\n<main>\n")?;
+    write_wood_section(&mut out, figures)?;
+    write_degrees(&mut out, figures)?;
+    write_lacking(alloc, &mut out, figures)?;
+    write_harvesters(&mut out, figures)?;
+    let free = grade_free_of(alloc, figures)?;
+    write_costs(&mut out, figures, &free)?;
+    write_targets(&mut out, figures)?;
+    for at in 0..figures.instruction.assortments().len() {
+        write_assortment(alloc, &mut out, figures, at)?;
+    }
+    write_stems(alloc, &mut out, figures, planner)?;
+    write_notes(&mut out, figures)?;
+    write!(&mut out, "\n</main>\n</body>\n</html>\n")?;
+    Ok(out)
+}

@@ -1,0 +1,6 @@
+use Rattle.std.proofs.Common.{◌≡◌, take}
+use Rattle.std.specs.List.{flat_map}
+use Rattle.buck_page_figures.proofs.course.opening_targets.Given as goal
+
+abbrev pub invariant-loop-assortment : goal.invariant-loop-assortment
+invariant-loop-assortment l = l.targets.items ≡ flat_map (λ a. a.targets) (take l.assortment-index l.assortment-items)

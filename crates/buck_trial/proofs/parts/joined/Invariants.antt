@@ -1,5 +1,0 @@
-use Rattle.buck_trial.specs.inner.Parts.{AreJoined}
-use Rattle.buck_trial.proofs.parts.joined.Given as goal
-
-abbrev pub invariant-loop-part : goal.invariant-loop-part
-invariant-loop-part g l = AreJoined l.yielded l.all.items

@@ -1,6 +1,0 @@
-use Rattle.std.proofs.Common.{◌≡◌, take}
-use Rattle.buck_trial.specs.inner.Lines.{all_draws, runs_of}
-use Rattle.buck_trial.proofs.trial.plan_all.Given as goal
-
-abbrev pub invariant-loop-combination : goal.invariant-loop-combination
-invariant-loop-combination l = runs_of l.planned.items ≡ all_draws (take l.combination-index l.combinations) l.starts

@@ -1,5 +1,0 @@
-use Rattle.buck_world.proofs.Words.{◌≡◌, replicate, newcomer}
-use Rattle.buck_world.proofs.world.newcomers.Given as goal
-
-abbrev pub invariant-loop : goal.invariant-loop
-invariant-loop l = l.all.items ≡ replicate l.counter newcomer

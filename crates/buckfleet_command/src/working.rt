@@ -1,0 +1,108 @@
+//! What is to be done, and doing it.
+ghost use Rattle.std.specs.Prelude.{◌≡◌};
+ghost use Rattle.buckfleet_command.specs.Work.{DoesWork};
+
+use buckfleet_engine::{
+    BuckTask, CheckTask, FleetTask, Make, Open, Task, ViewTask, serve, serve_buck, serve_check,
+    serve_fleet, serve_view,
+};
+use buckfleet_live::{LiveTask, Replies, serve_live};
+use buckfleet_proceeds::{AppraiseTask, CompareTask, serve_appraise, serve_compare};
+use buckfleet_terms_files::TermsFault;
+use buckfleet_trial::{
+    OwnedTask, RunOnlooker, TrialTask, TuneTask, WishesTask, serve_owned, serve_trial, serve_tune,
+    serve_wishes,
+};
+use buckfleet_trial_sweep::{SweepTask, serve_sweep};
+use std::alloc::Global;
+use std::io;
+use std::sync::Wait;
+use std::thread::Threads;
+
+/// The work of a run.
+#[derive(Drop)]
+pub enum Work<'a> {
+    /// A task that waits for nobody.
+    Plain(Task<'a>),
+    /// Stems are to be bucked, in several threads at once.
+    Buck(BuckTask<'a>),
+    /// A fleet, whose harvesters wait for one another.
+    Fleet(FleetTask<'a>),
+    /// A journal is to be checked, also by stem files and a rule, in several threads at once.
+    Check(CheckTask<'a>),
+    /// A journal is to be shown, and checked before in several threads at once.
+    View(ViewTask<'a>),
+    /// Stems are to be cut as they are felled.
+    Live(LiveTask<'a>),
+    /// Rules, periods and limits are to be compared, in several threads at once.
+    Sweep(SweepTask<'a>),
+    /// Rules, periods and limits are to be compared with other targets, or with orders that are drawn.
+    Trial(TrialTask<'a>),
+    /// The same, with what is paid under an owner's contract.
+    Owned(OwnedTask<'a>),
+    /// It is to be found what each target costs.
+    Wishes(WishesTask<'a>),
+    /// An instruction is to be tuned on stems.
+    Tune(TuneTask<'a>),
+    /// Journals are to be appraised under an owner's instruction.
+    Appraise(AppraiseTask<'a>),
+    /// Two journals are to be set side by side.
+    Compare(CompareTask<'a>),
+}
+
+impl Work<'_> {
+    /// Whether both files stand on standard input.
+    pub(crate) fn is_bare(&self) -> bool {
+        matches!(self, Work::Plain(Task::Bare))
+    }
+}
+
+/// The streams that a run reads and writes beside its files.
+#[derive(Drop)]
+pub struct Streams<R, W, E> {
+    /// Holds both files of the bare form, or requests.
+    pub input: R,
+    /// Takes the text that is asked for.
+    pub output: W,
+    /// Takes the words on what went wrong.
+    pub errors: E,
+}
+
+/// Does the work. Each fault and what is written before it are those of [`serve`], [`serve_buck`], [`serve_fleet`],
+/// [`serve_check`], [`serve_view`], [`serve_live`], [`serve_sweep`], [`serve_trial`], [`serve_owned`],
+/// [`serve_wishes`], [`serve_tune`], [`serve_appraise`] and [`serve_compare`].
+pub fn serve_work<
+    T: Threads + Wait + Sync,
+    L: RunOnlooker + Sync,
+    O: Open + Make,
+    R: io::Read,
+    W: Replies,
+>(
+    rt: &T,
+    alloc: Global,
+    work: &Work<'_>,
+    onlooker: &L,
+    files: &mut O,
+    input: &mut R,
+    output: &mut W,
+) -> Result<(), TermsFault>
+    ensures { DoesWork O.opens O.makes O.File.remaining O.Made.contents files.old files.new
+        (R.remaining input.old) (input.new ≡ input.old) work.now
+        (W.contents output.old) (W.contents output.new) result }
+{
+    match work {
+        Work::Plain(task) => Ok(serve(alloc, task, onlooker, input, files, output)?),
+        Work::Buck(task) => Ok(serve_buck(rt, alloc, task, onlooker, files, output)?),
+        Work::Fleet(task) => Ok(serve_fleet(rt, alloc, task, onlooker, files, output)?),
+        Work::Check(task) => Ok(serve_check(rt, alloc, task, onlooker, files, output)?),
+        Work::View(task) => Ok(serve_view(rt, alloc, task, onlooker, files, output)?),
+        Work::Live(task) => Ok(serve_live(alloc, task, onlooker, input, files, output)?),
+        Work::Sweep(task) => Ok(serve_sweep(rt, alloc, task, onlooker, files, output)?),
+        Work::Trial(task) => serve_trial(rt, alloc, task, onlooker, files, output),
+        Work::Owned(task) => serve_owned(rt, alloc, task, onlooker, files, output),
+        Work::Wishes(task) => serve_wishes(rt, alloc, task, onlooker, files, output),
+        Work::Tune(task) => serve_tune(alloc, task, onlooker, files, output),
+        Work::Appraise(task) => serve_appraise(rt, alloc, task, onlooker, files, output),
+        Work::Compare(task) => Ok(serve_compare(rt, alloc, task, onlooker, files, output)?),
+    }
+}

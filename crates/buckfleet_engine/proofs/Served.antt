@@ -1,0 +1,66 @@
+-- A fleet whose files were opened.
+use Rattle.std.proofs.Common.{◌≡◌, ℕ, List, Option, Some, None, Result, Ok, length, map, subst}
+use Rattle.std.proofs.lemmas.List.{length-map}
+use Rattle.std.specs.Option.{option_map}
+use Rattle.std.specs.Io.KnownBytes.{Keeps}
+use Rattle.std.proofs.KnownBytes.{Keeps-refl}
+use Rattle.buck_book_postings.specs.History.{HistoryParts}
+use Rattle.buckfleet_engine.specs.declared.fault.EngineFault.{EngineFault}
+use Rattle.buckfleet_engine.specs.declared.fleet.serving.FleetTask.{FleetTask}
+use Rattle.buckfleet_engine.specs.declared.fleet.serving.Order.{Order}
+use Rattle.buckfleet_engine.specs.fleet.Lent.{OfWriter, no_writer, of_made, of_writer}
+use Rattle.buckfleet_engine.specs.fleet.Running.{AreNoSeats, IsFleetRun}
+use Rattle.buckfleet_engine.specs.fleet.Serving.{RunsFleet, RunsInputs}
+use Rattle.buckfleet_engine.specs.run.Opening.{AnswersInputs, MakesJournal}
+use Rattle.buckfleet_engine.specs.run.Reading.{ReadsApt, apt_with}
+use Rattle.buckfleet_engine.specs.tie.Ties.{FollowsRule}
+
+-- as many seats as files
+pub of_files : {F : Type 0} (held : F → Option (List ℕ)) (files : List F) → AreNoSeats (length (map held files))
+    → AreNoSeats (length files)
+of_files held files none = subst AreNoSeats (length-map files held) none
+
+-- nothing was written into the file that was made
+pub nothing_made : {M : Type 0} (contents : M → Option (List ℕ)) (made : Option M) (P : OfWriter → Type 0)
+    → ((o : OfWriter) → o Keeps → P o) → of_made contents made P
+nothing_made contents None P so = so no_writer tt
+nothing_made contents (Some made) P so = (made, so (of_writer (contents made) (contents made)) (Keeps-refl _))
+
+pub made_so : {M : Type 0} (contents : M → Option (List ℕ)) (made : Option M) (P Q : OfWriter → Type 0)
+    → ((o : OfWriter) → P o → Q o) → of_made contents made P → of_made contents made Q
+made_so contents None P Q so p = so no_writer p
+made_so contents (Some made) P Q so (left, p) = (left, so (of_writer (contents made) (contents left)) p)
+
+-- the journal goes into the file that was made for it
+inputs_run : {O F M : Type 0} (makes : O → List ℕ → Option M → O → Type 0) (held : F → Option (List ℕ))
+    (contents : M → Option (List ℕ)) (start end : O) (reads : ReadsApt) (order : Order)
+    (ByRule : HistoryParts → Type 0) (journal : Option (List ℕ)) (files : F × List F) (made : Option M)
+    (old new : Option (List ℕ)) (r : Result (Unit {0}) EngineFault)
+    → MakesJournal makes start end journal (Ok made)
+    → of_made contents made (λ o. IsFleetRun reads order ByRule (held files.0) (map held files.1) o old new r)
+    → RunsInputs makes held contents start end reads order ByRule journal (Ok files) old new r
+inputs_run makes held contents start end reads order ByRule None files None old new r m run = (m, run)
+inputs_run makes held contents start end reads order ByRule None files (Some made) old new r m run = absurd m
+inputs_run makes held contents start end reads order ByRule (Some name) files None old new r m run = absurd m
+inputs_run makes held contents start end reads order ByRule (Some name) files (Some made) old new r m run =
+    (Some made, m, run)
+
+-- the fleet of a task ran over the files that were opened
+pub fleet_ran : {O F M : Type 0} (opens : O → List ℕ → Option F → O → Type 0)
+    (makes : O → List ℕ → Option M → O → Type 0) (held : F → Option (List ℕ)) (contents : M → Option (List ℕ))
+    (start between end : O) (task : FleetTask) (apt : F) (files stems : List F) (made : Option M)
+    (old new : Option (List ℕ)) (r : Result (Unit {0}) EngineFault)
+    → AnswersInputs opens start between task.apt.now (map (λ s. s.now) task.stms.items) (Ok (apt, files))
+    → MakesJournal makes between end (option_map (λ s. s.now) task.journal) (Ok made) → stems ≡ files
+    → of_made contents made
+    (λ o. IsFleetRun (apt_with task.settings) task.order (FollowsRule task.rule) (held apt) (map held stems) o old new r)
+    → RunsFleet opens makes held contents start end task old new r
+fleet_ran opens makes held contents start between end task apt files stems made old new r opened m same run = record {
+  opened = Ok (apt, files);
+  between = between;
+  answers = opened;
+  runs = inputs_run makes held contents between end (apt_with task.settings) task.order (FollowsRule task.rule) _
+      (apt, files) made old new r m
+      (subst (λ (l : List _). of_made contents made (λ o. IsFleetRun (apt_with task.settings) task.order
+      (FollowsRule task.rule) (held apt) (map held l) o old new r)) same run);
+}

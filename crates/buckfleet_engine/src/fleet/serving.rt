@@ -1,0 +1,80 @@
+//! Whole runs of a fleet.
+ghost use Rattle.std.specs.Prelude.{◌≡◌};
+ghost use Rattle.buckfleet_engine.specs.fleet.Serving.{RunsFleet};
+
+use crate::fault::EngineFault;
+use crate::fleet::running::cut_files;
+use crate::fleet::turning::cut_files_in_turn;
+use crate::fleet::writing::write_made;
+use crate::run::onlooker::Onlooker;
+use crate::run::opening::{Make, Open, make_journal, open_inputs};
+use buck_apt::Settings;
+use buck_rule::{NamedRule, Rule, Standing};
+use std::alloc::Global;
+use std::io;
+use std::sync::Wait;
+use std::thread::Threads;
+
+/// In which order harvesters cut.
+#[derive(Clone, Copy, Debug, PartialEq, Eq, Drop)]
+pub enum Order {
+    /// All at once, each in a thread of its own; which one commits first is open.
+    AtOnce,
+    /// In turn, one stem each, round by round.
+    InTurn,
+}
+
+/// The arguments of a fleet.
+#[derive(Drop)]
+pub struct FleetTask<'a> {
+    /// In which order the harvesters cut.
+    pub order: Order,
+    /// How prices follow what was cut.
+    pub rule: NamedRule,
+    /// The numbers that are put in the place of the instruction's own.
+    pub settings: Settings,
+    /// The name of the file that the journal goes into, if one is wanted.
+    pub journal: Option<&'a str>,
+    /// The name of the instruction file.
+    pub apt: &'a str,
+    /// The names of the stem files, one for each harvester.
+    pub stms: Vec<&'a str>,
+}
+
+/// Runs a fleet over the files of a task, by its rule. The onlooker is shown what was read and, while the fleet works,
+/// how far it is; [`Nobody`](crate::Nobody) is one that doesn't ask.
+///
+/// The input files are opened in the order of the words before one of them is read; one that can't be opened is `Read`
+/// with its number. Then the file of the journal is made, if one is wanted; if it can't be made, that is `Write`.
+/// Each fault and what is written before it are those of [`run_fleet_files`](crate::run_fleet_files), or of
+/// [`run_in_turn`](crate::run_in_turn) if the task asks for turns. The instruction is read, and refused, by its own
+/// numbers; then those of the task take their place.
+pub fn serve_fleet<T: Threads + Wait + Sync, L: Onlooker + Sync, O: Open + Make, W: io::Write>(
+    rt: &T,
+    alloc: Global,
+    task: &FleetTask<'_>,
+    onlooker: &L,
+    opener: &mut O,
+    writer: &mut W,
+) -> Result<(), EngineFault>
+    ensures { RunsFleet O.opens O.makes O.File.remaining O.Made.contents opener.old opener.new task.now
+        (W.contents writer.old) (W.contents writer.new) result }
+{
+    let named = task.rule;
+    let rule = Rule::new(move |s: &Standing| named.price(s));
+    let (mut apt, mut stems) = open_inputs(alloc, opener, task.apt, task.stms.as_slice())?;
+    // OUT after the inputs, because it may be none of them, and before they are read: else a run that can't write would
+    // work in vain.
+    let journal = make_journal(opener, task.journal)?;
+    let stems = stems.as_mut_slice();
+    match task.order {
+        Order::AtOnce => {
+            let closed = cut_files(rt, alloc, &mut apt, stems, rule, &task.settings, onlooker)?;
+            write_made(alloc, closed.parts(), journal, writer)
+        }
+        Order::InTurn => {
+            let turned = cut_files_in_turn(alloc, &mut apt, stems, rule, &task.settings, onlooker)?;
+            write_made(alloc, &turned, journal, writer)
+        }
+    }
+}

@@ -1,0 +1,222 @@
+//! Whole runs of the program, and how the program ends after one.
+ghost use Rattle.std.specs.Prelude.{◌≡◌, true, false, Result};
+ghost use Rattle.std.specs.Io.KnownBytes.{Keeps};
+ghost use Rattle.buckfleet_engine.specs.declared.fault.EngineFault.{EngineFault};
+ghost use Rattle.buckfleet_engine.specs.text.Written.{IsWritten, WritesText};
+ghost use Rattle.buckfleet_engine.specs.Faults.{fault_line};
+ghost use Rattle.buckfleet_engine.specs.run.Checking.{AnswersCheck, AnswersJournal, IsJournalReport};
+ghost use Rattle.buckfleet_engine.specs.run.Bucking.{AnswersBare, AnswersBuck};
+ghost use Rattle.buckfleet_engine.specs.run.Reading.{apt_with};
+ghost use Rattle.buckfleet_engine.specs.run.Serving.{AppendsFirst, RunsFiles, RunsTask, TellsOutcome, status_after};
+
+use crate::fault::{EngineFault, status};
+use crate::run::bucking::{text_of_one, text_of_two};
+use crate::run::checking::text_of_check;
+use crate::run::onlooker::Onlooker;
+use crate::run::opening::{Open, open_both};
+use crate::run::reporting::run_report_with;
+use crate::text::writing::{write_fault, write_text};
+use buck_apt::Settings;
+use std::alloc::Global;
+use std::io;
+
+/// The task of a run: its command and the arguments.
+#[derive(Drop)]
+pub enum Task<'a> {
+    /// Both files stand on standard input, with a `|` between them.
+    Bare,
+    /// The files of these names.
+    Buck {
+        apt: &'a str,
+        stm: &'a str,
+    },
+    /// A check of a journal by its instruction, in the files of these names.
+    Check {
+        apt: &'a str,
+        journal: &'a str,
+    },
+    /// The report of a journal by its instruction, in the files of these names, with these numbers in the place of the
+    /// instruction's own.
+    Report {
+        apt: &'a str,
+        journal: &'a str,
+        settings: Settings,
+    },
+}
+
+/// Bucks the stems of two files, which an onlooker is shown.
+fn buck_opened<L: Onlooker, R: io::Read, W: io::Write>(
+    alloc: Global,
+    onlooker: &L,
+    apt: &mut R,
+    stm: &mut R,
+    writer: &mut W,
+) -> Result<(), EngineFault>
+    ensures { WritesText (AnswersBuck (R.remaining apt.old) (R.remaining stm.old))
+        (W.contents writer.old) (W.contents writer.new) result }
+{
+    let text = text_of_two(alloc, onlooker, apt, stm)?;
+    write_text(writer, text.as_slice())
+}
+
+/// Opens both files by their names, the instruction file first, and then bucks the stems.
+fn buck_files<L: Onlooker, O: Open, W: io::Write>(
+    alloc: Global,
+    onlooker: &L,
+    opener: &mut O,
+    apt: &str,
+    stm: &str,
+    writer: &mut W,
+) -> Result<(), EngineFault>
+    ensures { RunsFiles AnswersBuck O.opens O.File.remaining opener.old opener.new apt.now stm.now
+        (W.contents writer.old) (W.contents writer.new) result }
+{
+    let (mut instruction, mut stems) = open_both(opener, apt, stm)?;
+    buck_opened(alloc, onlooker, &mut instruction, &mut stems, writer)
+}
+
+/// Bucks the stems of an input, which an onlooker is shown.
+fn buck_input<L: Onlooker, R: io::Read, W: io::Write>(
+    alloc: Global,
+    onlooker: &L,
+    input: &mut R,
+    writer: &mut W,
+) -> Result<(), EngineFault>
+    ensures { WritesText (AnswersBare (R.remaining input.old)) (W.contents writer.old) (W.contents writer.new) result }
+{
+    let text = text_of_one(alloc, onlooker, input)?;
+    write_text(writer, text.as_slice())
+}
+
+/// Checks a journal by an instruction file, whose instruction an onlooker is shown.
+fn check_opened<L: Onlooker, R: io::Read, W: io::Write>(
+    alloc: Global,
+    onlooker: &L,
+    apt: &mut R,
+    journal: &mut R,
+    writer: &mut W,
+) -> Result<(), EngineFault>
+    ensures { WritesText (AnswersCheck (R.remaining apt.old) (R.remaining journal.old))
+        (W.contents writer.old) (W.contents writer.new) result }
+{
+    let text = text_of_check(alloc, onlooker, apt, journal)?;
+    write_text(writer, text.as_slice())
+}
+
+/// Opens both files by their names, the instruction file first, and then checks the journal.
+fn check_files<L: Onlooker, O: Open, W: io::Write>(
+    alloc: Global,
+    onlooker: &L,
+    opener: &mut O,
+    apt: &str,
+    journal: &str,
+    writer: &mut W,
+) -> Result<(), EngineFault>
+    ensures { RunsFiles AnswersCheck O.opens O.File.remaining opener.old opener.new apt.now journal.now
+        (W.contents writer.old) (W.contents writer.new) result }
+{
+    let (mut instruction, mut journal_file) = open_both(opener, apt, journal)?;
+    check_opened(alloc, onlooker, &mut instruction, &mut journal_file, writer)
+}
+
+/// Does what the task asks for. The onlooker is shown the instruction and, if stems are cut, these.
+///
+/// The files of a task are opened in the order of its words before one of them is read; one that can't be opened is
+/// `Read` with its number. Each fault and what is written before it are those of [`run_buck`](crate::run_buck),
+/// [`run_bare`](crate::run_bare), [`run_check`](crate::run_check) and [`run_report`](crate::run_report).
+pub fn serve<L: Onlooker, R: io::Read, O: Open, W: io::Write>(
+    alloc: Global,
+    task: &Task<'_>,
+    onlooker: &L,
+    input: &mut R,
+    opener: &mut O,
+    writer: &mut W,
+) -> Result<(), EngineFault>
+    ensures { RunsTask O.opens O.File.remaining opener.old opener.new (R.remaining input.old) task.now
+        (W.contents writer.old) (W.contents writer.new) result }
+{
+    match task {
+        Task::Bare => buck_input(alloc, onlooker, input, writer),
+        Task::Buck { apt, stm } => buck_files(alloc, onlooker, opener, *apt, *stm, writer),
+        Task::Check { apt, journal } => check_files(
+            alloc, onlooker, opener, *apt, *journal, writer,
+        ),
+        Task::Report {
+            apt,
+            journal,
+            settings,
+        } => {
+            let (mut instruction, mut postings) = open_both(opener, *apt, *journal)?;
+            run_report_with(
+                alloc,
+                onlooker,
+                &mut instruction,
+                &mut postings,
+                settings,
+                writer,
+            )
+        }
+    }
+}
+
+/// Writes first bytes of the line of a fault: all of it, if the writer takes them.
+#[tactic(auto, using(crate::proofs::WrittenLemmas::first_told))]
+fn tell_fault<E: io::Write>(errors: &mut E, fault: &EngineFault)
+    ensures { AppendsFirst (E.contents errors.old) (E.contents errors.new) (fault_line fault.now) }
+{
+    let _ = write_fault(errors, fault);
+}
+
+/// Says nothing of a run that went well, and else the line of its fault.
+fn tell<E: io::Write>(errors: &mut E, outcome: &Result<(), EngineFault>)
+    ensures { TellsOutcome (E.contents errors.old) (E.contents errors.new) outcome.now }
+{
+    match outcome {
+        Ok(()) => {}
+        Err(fault) => tell_fault(errors, fault),
+    }
+}
+
+/// The exit status after a run.
+fn status_after(outcome: &Result<(), EngineFault>) -> u8
+    ensures { result ≡ status_after outcome.now }
+{
+    match outcome {
+        Ok(()) => 0,
+        Err(fault) => status(fault),
+    }
+}
+
+/// Says how a run ended: nothing if it went well, and else the line of the fault. The answer is the exit status.
+pub fn conclude<E: io::Write>(errors: &mut E, outcome: &Result<(), EngineFault>) -> u8
+    ensures status { result ≡ status_after outcome.now }
+    ensures told { TellsOutcome (E.contents errors.old) (E.contents errors.new) outcome.now }
+{
+    tell(errors, outcome);
+    status_after(outcome)
+}
+
+/// Says a text about the command line: what is wrong with the words on `errors`, with status 2, and what was asked
+/// for, as help, on `output`, which ends as a run does.
+#[tactic(auto, using(crate::proofs::WrittenLemmas::first_written))]
+pub fn explain<W: io::Write, E: io::Write>(
+    output: &mut W,
+    errors: &mut E,
+    text: &[u8],
+    mistake: bool,
+) -> u8
+    ensures status { mistake ≡ true → result ≡ 2 }
+    ensures kept { mistake ≡ true → Keeps (W.contents output.old) (W.contents output.new) }
+    ensures told { mistake ≡ true → AppendsFirst (E.contents errors.old) (E.contents errors.new) text.now }
+    ensures asked { mistake ≡ false → (outcome : Result (Unit {0}) EngineFault)
+        × IsWritten (W.contents output.old) (W.contents output.new) text.now outcome
+        × (result ≡ status_after outcome)
+        × TellsOutcome (E.contents errors.old) (E.contents errors.new) outcome }
+{
+    if mistake {
+        let _ = write_text(errors, text);
+        return 2;
+    }
+    let written = write_text(output, text);
+    conclude(errors, &written)
+}

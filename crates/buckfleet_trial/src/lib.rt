@@ -1,0 +1,36 @@
+//! What a harvest would come to, found by trial before a tree is cut.
+//!
+//! [`serve_trial`] compares rules, periods and limits as a sweep does, with other targets than the instruction's, and
+//! over orders of the stems that are drawn by chance; [`serve_owned`] adds what an owner pays. [`serve_wishes`] finds
+//! what each target costs: a run with each in its turn moved half way to what the class has unsteered. [`serve_tune`]
+//! finds the base prices that such stems ask for. [`run_trial`], [`run_owned`], [`run_wishes`] and [`run_tune`] are the
+//! same over open files, [`TrialTask`], [`OwnedTask`], [`WishesTask`] and [`TuneTask`] what they are asked; the calls
+//! named `in_parts` make their runs in several threads at once.
+#![tactic(auto)]
+
+mod asking;
+mod light;
+mod moved;
+mod onlooker;
+mod outcome;
+mod owned;
+mod parts;
+mod reading;
+mod serving;
+mod table;
+mod task;
+mod trial;
+mod tune;
+mod wish;
+mod wishes;
+
+pub use buckfleet_terms_files::TermsFault;
+pub use buckfleet_trial_draws::Draws;
+pub use onlooker::RunOnlooker;
+pub use owned::{OwnedFiles, run_owned, serve_owned};
+pub use reading::Opened;
+pub use serving::{serve_trial, serve_wishes};
+pub use task::{OwnedTask, TrialTask, TuneTask, WishesTask};
+pub use trial::{run_trial, run_trial_in_parts};
+pub use tune::{run_tune, serve_tune, tuned_prices};
+pub use wishes::{run_wishes, run_wishes_in_parts};
