@@ -15,4 +15,5 @@ pub use Rattle.buck_book_journal.specs.Written
 pub use Rattle.buck_book_journal.specs.reading
 pub use Rattle.buck_book_journal.specs.judging
 pub use Rattle.buck_book_journal.specs.Ranges
+pub use Rattle.buck_book_journal.specs.Several
 pub use Rattle.buck_book_journal.specs.Faults

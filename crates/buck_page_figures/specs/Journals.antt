@@ -1,13 +1,8 @@
 -- Several journals of one instruction: each begins with its base prices and its targets, and what is cut goes on.
-use Rattle.std.specs.Prelude.{◌≡◌, ℕ, ◌+◌, ◌<◌, ◌≤◌, List, [], ◌∷◌, ◌++◌, length, take, slice_get, Option, Some, None}
+use Rattle.std.specs.Prelude.{◌≡◌, ℕ, ◌+◌, ◌<◌, ◌≤◌, List, [], length, take, slice_get, Option, Some, None}
 use Rattle.buck_book_postings.specs.declared.posting.Posting.{Posting}
 use Rattle.buck_book_journal.specs.reading.Journal.{JournalParts}
-
--- all postings, journal by journal
-abbrev pub postings_of : List JournalParts → List Posting
-postings_of [] = []
-postings_of (j ∷ []) = j.entries
-postings_of (j ∷ k ∷ more) = j.entries ++ postings_of (k ∷ more)
+pub use Rattle.buck_book_journal.specs.Several.{postings_of}
 
 -- the postings of a journal, and its sheets; none if there is no journal
 abbrev pub entries_in : Option JournalParts → List Posting

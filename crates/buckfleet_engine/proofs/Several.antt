@@ -11,7 +11,7 @@ use Rattle.buck_apt.specs.Instruction.{InstructionParts}
 use Rattle.buck_book_postings.specs.declared.posting.TheConstants.{MOST_POSTINGS}
 use Rattle.buck_book_journal.specs.reading.Journal.{JournalParts, journal_of}
 use Rattle.buck_book_journal.specs.declared.judging.fault.ReplayFault.{ReplayFault}
-use Rattle.buck_page_figures.specs.Journals.{postings_of}
+use Rattle.buck_book_journal.specs.Several.{postings_of}
 use Rattle.buckfleet_engine.specs.declared.fault.EngineFault.{EngineFault}
 use Rattle.buckfleet_engine.specs.declared.fault.EngineFault.TheVariants.{Memory, Journal, JournalOf, Replay, ReplayOf}
 use Rattle.buckfleet_engine.specs.declared.run.asked.Shown.{Shown}

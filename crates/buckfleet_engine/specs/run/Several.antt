@@ -9,7 +9,7 @@ use Rattle.buck_book_journal.specs.reading.Journal.{JournalParts, journal_of}
 use Rattle.buck_book_journal.specs.judging.Replay.{history_of, IsFirstFault}
 use Rattle.buck_book_journal.specs.declared.reading.fault.JournalFault.{JournalFault}
 use Rattle.buck_book_journal.specs.declared.judging.fault.ReplayFault.{ReplayFault}
-use Rattle.buck_page_figures.specs.Journals.{postings_of}
+use Rattle.buck_book_journal.specs.Several.{postings_of}
 use Rattle.buckfleet_engine.specs.declared.fault.EngineFault.{EngineFault}
 use Rattle.buckfleet_engine.specs.declared.fault.EngineFault.TheVariants.{Write, Journal, JournalOf, Replay, ReplayOf, Full}
 use Rattle.buckfleet_engine.specs.run.Reading.{IsAccepted, IsAptFault, IsFileFault, ReadsApt, Says}

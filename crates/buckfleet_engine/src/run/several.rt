@@ -1,7 +1,7 @@
 //! An instruction file and several journals that were all read, and the replay of each by the one.
 ghost use Rattle.std.specs.Prelude.{◌≡◌, ◌≢◌, ◌+◌, ◌<◌, ◌≤◌, ◌↔◌, IsTrue, length, map, Ok, OnOk, IfOk, IfErr};
 ghost use Rattle.buck_book_journal.specs.reading.Journal.{journal_of};
-ghost use Rattle.buck_page_figures.specs.Journals.{postings_of};
+ghost use Rattle.buck_book_journal.specs.Several.{postings_of};
 ghost use Rattle.buckfleet_engine.specs.run.Reading.{IsFileFault, Says, apt_with};
 ghost use Rattle.buckfleet_engine.specs.run.Several.{AreLawful, HaveJournals, IsFirstUnlawful, IsJournalsFault, IsSeveralFault, journal_fault, replay_fault};
 ghost use Rattle.buckfleet_engine.specs.inner.Several.{AreEachFew};

@@ -1,7 +1,7 @@
 //! Whole runs that show journals, from their task to the exit status.
 ghost use Rattle.std.specs.Prelude.{◌≡◌, ◌≢◌, ◌<◌, ◌≤◌, OnOk, IfErr, length, map};
 ghost use Rattle.std.specs.Io.KnownBytes.{Keeps};
-ghost use Rattle.buck_page_figures.specs.Journals.{postings_of};
+ghost use Rattle.buck_book_journal.specs.Several.{postings_of};
 ghost use Rattle.buckfleet_engine.specs.run.Several.{AreLawful, HavePage, IsFirstUnlawful, replay_fault};
 ghost use Rattle.buckfleet_engine.specs.run.Viewing.{AppendsPage, AppendsTable};
 ghost use Rattle.buckfleet_engine.specs.inner.Several.{ShowsAll, ShowsUnlawful};

@@ -4,7 +4,7 @@ ghost use Rattle.std.specs.Io.KnownBytes.{Keeps};
 ghost use Rattle.buck_apt.specs.Apt.{apt_of};
 ghost use Rattle.buck_book_postings.specs.History.{IsLawful};
 ghost use Rattle.buck_page_figures.specs.Figures.{base_sheet};
-ghost use Rattle.buck_page_figures.specs.Journals.{postings_of};
+ghost use Rattle.buck_book_journal.specs.Several.{postings_of};
 ghost use Rattle.buck_book_journal.specs.judging.Replay.{history_of, IsFirstFault};
 ghost use Rattle.buckfleet_engine.specs.declared.fault.EngineFault.TheVariants.{Write};
 ghost use Rattle.buckfleet_engine.specs.run.Reading.{IfStopped};

@@ -1,6 +1,6 @@
 use Rattle.std.proofs.Common.{◌≡◌, ◌*◌, ◌≤◌, length, take}
 use Rattle.buck_book_postings.specs.declared.posting.TheConstants.{MOST_POSTINGS}
-use Rattle.buck_page_figures.specs.Journals.{postings_of}
+use Rattle.buck_book_journal.specs.Several.{postings_of}
 use Rattle.buckfleet_engine.proofs.run.several.are_few.Given as goal
 
 abbrev pub invariant-loop-journal : goal.invariant-loop-journal
