@@ -118,11 +118,6 @@ impl<'a> Subject<'a> {
     fn of_task(alloc: Global, task: &'a Task<'a>) -> Result<Subject<'a>, AllocError> {
         match task {
             Task::Bare => Ok(Subject::bare(alloc)),
-            Task::Buck { apt, stm } => Subject::of_files(alloc, *apt, &[*stm]),
-            Task::Check { apt, journal } => Ok(Subject {
-                others: 2,
-                ..Subject::of_files(alloc, *apt, &[*journal])?
-            }),
             Task::Report {
                 apt,
                 journal,

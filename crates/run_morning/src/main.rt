@@ -5,7 +5,8 @@
 
 use buck_rule::NamedRule;
 use buckfleet_engine::{
-    Desk, Disk, FleetTask, Nobody, Order, Settings, Task, conclude, serve, serve_fleet,
+    BuckTask, CheckTask, CrossCheck, Desk, Disk, FleetTask, Nobody, Order, Settings, conclude,
+    serve_buck, serve_check, serve_fleet,
 };
 use std::alloc::{AllocError, Global};
 use std::io;
@@ -52,13 +53,44 @@ fn harvested<T: Threads + Wait + Sync>(
     conclude(&mut rt.stderr(), &outcome)
 }
 
-/// The status of a task over files.
-fn served(rt: &HostRuntime, task: &Task<'_>) -> u8 {
-    let outcome = serve(
+/// The status of a check of the journal.
+fn checked<T: Threads + Sync>(threads: &T, rt: &HostRuntime) -> u8 {
+    let mut files = Vec::new(rt.alloc());
+    if files.push(JOURNAL).is_err() {
+        return 3;
+    }
+    let task = CheckTask {
+        by: CrossCheck {
+            rule: None,
+            settings: Settings::own(),
+        },
+        apt: APT,
+        files,
+        threads: None,
+    };
+    let outcome = serve_check(
+        threads,
         rt.alloc(),
-        task,
+        &task,
         &Nobody,
-        &mut rt.reader(),
+        &mut Disk::of(rt, rt.alloc(), &Desk::of(0)),
+        &mut io::writer(rt),
+    );
+    conclude(&mut rt.stderr(), &outcome)
+}
+
+/// The status of two files that are bucked.
+fn bucked<T: Threads + Sync>(threads: &T, rt: &HostRuntime, apt: &'static str) -> u8 {
+    let task = BuckTask {
+        apt,
+        stm: "pine.stm",
+        threads: None,
+    };
+    let outcome = serve_buck(
+        threads,
+        rt.alloc(),
+        &task,
+        &Nobody,
         &mut Disk::of(rt, rt.alloc(), &Desk::of(0)),
         &mut io::writer(rt),
     );
@@ -66,24 +98,21 @@ fn served(rt: &HostRuntime, task: &Task<'_>) -> u8 {
 }
 
 fn main(rt: HostRuntime) -> ExitCode {
-    let (apt, journal, stm) = (APT, JOURNAL, "pine.stm");
     let stms = ["morning_1.stm", "morning_2.stm", "morning_3.stm"];
     if harvested(&rt, &rt, Order::AtOnce, &stms[..1]) != 0 {
         return ExitCode::from(10);
     }
-    if served(&rt, &Task::Check { apt, journal }) != 0 {
+    if checked(&rt, &rt) != 0 {
         return ExitCode::from(11);
     }
     if harvested(&rt, &rt, Order::InTurn, &stms) != 0 {
         return ExitCode::from(12);
     }
-    if served(&rt, &Task::Check { apt, journal }) != 0 {
+    if checked(&rt, &rt) != 0 {
         return ExitCode::from(13);
     }
-    let apt = "pine.apt";
-    if served(&rt, &Task::Buck { apt, stm }) != 0 {
+    if bucked(&rt, &rt, "pine.apt") != 0 {
         return ExitCode::from(14);
     }
-    let apt = "refused.apt";
-    ExitCode::from(served(&rt, &Task::Buck { apt, stm }))
+    ExitCode::from(bucked(&rt, &rt, "refused.apt"))
 }

@@ -1,6 +1,6 @@
 //! Bucking in parts: in whatever number of threads stems are cut, what is written is what one thread writes.
 use crate::work::apt_and_stm;
-use buckfleet_engine::{EngineFault, run_buck, run_buck_in_parts};
+use buckfleet_engine::{EngineFault, Nobody, SeveralThreads, run_buck, run_buck_in_parts};
 use std::alloc::Global;
 use std::test::Fail;
 use std::thread::Threads;
@@ -30,7 +30,10 @@ fn text_by<'x, T: Threads + Sync>(
     let mut text = Vec::with_capacity(alloc, ROOM)?;
     match threads {
         None => run_buck(alloc, &mut apt, &mut stm, &mut text)?,
-        Some(_) => run_buck_in_parts(rt, alloc, threads, &mut apt, &mut stm, &mut text)?,
+        Some(_) => {
+            let workers = SeveralThreads::of(rt, threads, &Nobody);
+            run_buck_in_parts(&workers, alloc, &mut apt, &mut stm, &mut text)?
+        }
     }
     Ok(text)
 }

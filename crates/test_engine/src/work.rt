@@ -4,8 +4,8 @@ ghost use Rattle.std.specs.Prelude.{◌≤◌};
 use crate::streams::{Sink, Source};
 use buck_rule::{NamedRule, Rule, Standing, step};
 use buckfleet_engine::{
-    CrossCheck, EngineFault, OneThread, Settings, run_bare, run_buck, run_buck_in_parts, run_check,
-    run_check_with, run_fleet_files, run_in_turn,
+    CrossCheck, EngineFault, Nobody, OneThread, Settings, SeveralThreads, run_bare, run_buck,
+    run_buck_in_parts, run_check, run_check_with, run_fleet_files, run_in_turn,
 };
 use std::alloc::Global;
 use std::sync::Wait;
@@ -158,9 +158,8 @@ impl Engine {
             Engine::Bare => run_bare(alloc, &mut first, &mut text),
             Engine::Buck => run_buck(alloc, &mut first, &mut others[0], &mut text),
             Engine::Parts => run_buck_in_parts(
-                rt,
+                &SeveralThreads::of(rt, Some(2), &Nobody),
                 alloc,
-                Some(2),
                 &mut first,
                 &mut others[0],
                 &mut text,

@@ -3,7 +3,7 @@ ghost use Rattle.std.specs.Prelude.{◌≡◌, ◌≢◌, ◌+◌, ◌<◌, leng
 
 use buck_rule::NamedRule;
 use buckfleet_command::{Work, serve_work};
-use buckfleet_engine::{FleetTask, Make, Nobody, Open, Order, Settings, Task};
+use buckfleet_engine::{BuckTask, FleetTask, Make, Nobody, Open, Order, Settings};
 use buckfleet_terms_files::conclude_terms;
 use std::alloc::Global;
 use std::sync::Wait;
@@ -156,9 +156,10 @@ pub fn out_of_another_name<T: Threads + Wait + Sync>(rt: &T, alloc: Global) {
 
 /// One of two files is opened once more.
 pub fn file_opened_twice<T: Threads + Wait + Sync>(rt: &T, alloc: Global) {
-    let work = Work::Plain(Task::Buck {
+    let work = Work::Buck(BuckTask {
         apt: "pine.apt",
         stm: "stems.stm",
+        threads: None,
     });
     let mut files = Full { opened: 0, made: 0 };
     let mut input = b"".as_slice();

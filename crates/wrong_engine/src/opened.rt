@@ -7,7 +7,8 @@ ghost use Rattle.buckfleet_engine.specs.run.Bucking.{is_bar};
 
 use buck_rule::NamedRule;
 use buckfleet_engine::{
-    FleetTask, Make, Nobody, Open, Order, Settings, Task, conclude, serve, serve_fleet,
+    BuckTask, FleetTask, Make, Nobody, Open, Order, Settings, Task, conclude, serve, serve_buck,
+    serve_fleet,
 };
 use std::alloc::Global;
 use std::sync::Wait;
@@ -31,38 +32,25 @@ impl Open for Missing {
 }
 
 /// The stem file is opened first, in the place of the instruction file.
-pub fn run_task_files_swapped(alloc: Global, output: &mut Vec<u8>) {
-    let task = Task::Buck {
+pub fn buck_files_swapped<T: Threads + Sync>(rt: &T, alloc: Global, output: &mut Vec<u8>) {
+    let task = BuckTask {
         apt: "pine.apt",
         stm: "stems.stm",
+        threads: None,
     };
-    let mut input = b"".as_slice();
     let mut files = Missing { asked: 0 };
-    let _ = serve(alloc, &task, &Nobody, &mut input, &mut files, output);
+    let _ = serve_buck(rt, alloc, &task, &Nobody, &mut files, output);
     let right = files.asked;
     let wrong = "stems.stm".len();
     prove!(right != wrong);
 }
 
-/// The journal is opened first, in the place of the instruction file.
-pub fn check_files_swapped(alloc: Global, output: &mut Vec<u8>) {
-    let task = Task::Check {
-        apt: "pine.apt",
-        journal: "stems.jrn",
-    };
-    let mut input = b"".as_slice();
-    let mut files = Missing { asked: 0 };
-    let _ = serve(alloc, &task, &Nobody, &mut input, &mut files, output);
-    let right = files.asked;
-    let wrong = "stems.jrn".len();
-    prove!(right != wrong);
-}
-
 /// The line of a fault goes to the output.
 pub fn serve_fault_line_on_the_output(alloc: Global) {
-    let task = Task::Buck {
+    let task = Task::Report {
         apt: "pine.apt",
-        stm: "stems.stm",
+        journal: "stems.jrn",
+        settings: Settings::own(),
     };
     let mut input = b"".as_slice();
     let mut files = Missing { asked: 0 };
@@ -94,15 +82,19 @@ impl Open for First {
 }
 
 /// A stem file that is missing is reported as file 0, the instruction file.
-pub fn open_both_missing_stems_as_file_0(alloc: Global, output: &mut Vec<u8>) {
-    let task = Task::Buck {
+pub fn open_both_missing_stems_as_file_0<T: Threads + Sync>(
+    rt: &T,
+    alloc: Global,
+    output: &mut Vec<u8>,
+) {
+    let task = BuckTask {
         apt: "pine.apt",
         stm: "stems.stm",
+        threads: None,
     };
-    let mut input = b"".as_slice();
     let mut files = First { is_asked: false };
     let mut errors = Vec::new(alloc);
-    let outcome = serve(alloc, &task, &Nobody, &mut input, &mut files, output);
+    let outcome = serve_buck(rt, alloc, &task, &Nobody, &mut files, output);
     let _ = conclude(&mut errors, &outcome);
     let wrong = b"read fault 0\n".as_slice();
     prove!(errors.as_slice() != wrong);

@@ -33,7 +33,8 @@ pub fn parts_swapped<'x, T: Threads + Sync>(
     let mut instruction = apt;
     let mut stems = stm;
     let mut right = Vec::new(alloc);
-    let outcome = run_buck_in_parts(rt, alloc, Some(2), &mut instruction, &mut stems, &mut right);
+    let workers = SeveralThreads::of(rt, Some(2), &Nobody);
+    let outcome = run_buck_in_parts(&workers, alloc, &mut instruction, &mut stems, &mut right);
     if outcome.is_ok() {
         prove!(right.as_slice() != wrong);
     }
@@ -57,7 +58,8 @@ pub fn last_part_dropped<'x, T: Threads + Sync>(
     let mut instruction = apt;
     let mut stems = stm;
     let mut right = Vec::new(alloc);
-    let outcome = run_buck_in_parts(rt, alloc, Some(2), &mut instruction, &mut stems, &mut right);
+    let workers = SeveralThreads::of(rt, Some(2), &Nobody);
+    let outcome = run_buck_in_parts(&workers, alloc, &mut instruction, &mut stems, &mut right);
     if outcome.is_ok() {
         prove!(right.as_slice() != wrong);
     }

@@ -3,9 +3,9 @@ use Rattle.std.specs.Prelude.{◌≡◌, ◌≤◌, ℕ, List, length, take, Opt
 use Rattle.std.specs.Io.KnownBytes.{Appends, Keeps}
 use Rattle.buckfleet_engine.specs.declared.fault.EngineFault.{EngineFault}
 use Rattle.buckfleet_engine.specs.declared.run.serving.Task.{Task}
-use Rattle.buckfleet_engine.specs.declared.run.serving.Task.TheVariants.{Bare, Buck, Check, Report}
-use Rattle.buckfleet_engine.specs.run.Bucking.{AnswersBare, AnswersBuck}
-use Rattle.buckfleet_engine.specs.run.Checking.{AnswersCheck, AnswersJournal, IsJournalReport}
+use Rattle.buckfleet_engine.specs.declared.run.serving.Task.TheVariants.{Bare, Report}
+use Rattle.buckfleet_engine.specs.run.Bucking.{AnswersBare}
+use Rattle.buckfleet_engine.specs.run.Checking.{AnswersJournal, IsJournalReport}
 use Rattle.buckfleet_engine.specs.run.Reading.{apt_with}
 use Rattle.buckfleet_engine.specs.Faults.{status_of, fault_line}
 use Rattle.buckfleet_engine.specs.run.Opening.{AnswersOpening}
@@ -33,10 +33,6 @@ pub record RunsFiles {O F : Type 0} (Answers : AnswersTwo) (opens : O → List �
 abbrev pub RunsTask : {O F : Type 0} → (O → List ℕ → Option F → O → Type 0) → (F → Option (List ℕ)) → O → O
     → Option (List ℕ) → Task → Option (List ℕ) → Option (List ℕ) → Result (Unit {0}) EngineFault → Type 0
 RunsTask opens held start end input Bare old new outcome = WritesText (AnswersBare input) old new outcome
-RunsTask opens held start end input (Buck apt stm) old new outcome =
-    RunsFiles AnswersBuck opens held start end apt.now stm.now old new outcome
-RunsTask opens held start end input (Check apt journal) old new outcome =
-    RunsFiles AnswersCheck opens held start end apt.now journal.now old new outcome
 RunsTask opens held start end input (Report apt journal settings) old new outcome =
     RunsFiles (AnswersJournal (apt_with settings) IsJournalReport) opens held start end apt.now journal.now
     old new outcome

@@ -47,19 +47,13 @@ fn stm_part(input: &[u8]) -> &[u8]
     }
 }
 
-/// The text of an instruction file and a stem file, which an onlooker is shown.
-pub(crate) fn text_of_two<L: Onlooker, R: io::Read>(
-    alloc: Global,
-    onlooker: &L,
-    apt: &mut R,
-    stm: &mut R,
-) -> Result<Vec<u8>, EngineFault>
+/// The text of an instruction file and a stem file.
+fn text_of_two<R: io::Read>(alloc: Global, apt: &mut R, stm: &mut R) -> Result<Vec<u8>, EngineFault>
     ensures answer { AnswersBuck (R.remaining apt.old) (R.remaining stm.old) (listed result) }
     ensures order { IfErr result (IfStopped (λ last. last ≡ 0 → stm.new ≡ stm.old)) }
 {
     let instruction = read_instruction(alloc, apt)?;
     let stems = read_stems(&OneThread, alloc, stm, 1)?;
-    onlooker.read(&instruction, from_ref(&stems));
     Ok(buck_text(alloc, &instruction, stems.as_slice())?)
 }
 
@@ -85,7 +79,7 @@ pub fn run_buck<R: io::Read, W: io::Write>(
     // Only a failed write touches the writer.
     ensures untouched { IfErr result (λ fault. fault ≢ Write → writer.new ≡ writer.old) }
 {
-    let text = text_of_two(alloc, &Nobody, apt, stm)?;
+    let text = text_of_two(alloc, apt, stm)?;
     write_text(writer, text.as_slice())
 }
 

@@ -10,11 +10,9 @@ ghost use Rattle.buckfleet_engine.specs.text.Written.{WritesText};
 
 use crate::fault::EngineFault;
 use crate::run::both::{Both, read_own, replay_both, unlawful};
-use crate::run::onlooker::{Nobody, Onlooker};
 use crate::text::writing::write_text;
 use buck_book_journal::ReplayFault;
 use buck_record::{Memory, put_line};
-use buck_stem::Stem;
 use std::alloc::Global;
 use std::io;
 
@@ -28,7 +26,7 @@ pub(crate) fn lawful_text(alloc: Global, postings: usize) -> Result<Vec<u8>, Mem
 }
 
 /// The line of a journal, by what came of its replay.
-pub(crate) fn text_of_both(
+fn text_of_both(
     alloc: Global,
     both: &Both,
     replayed: Result<(), ReplayFault>,
@@ -44,10 +42,9 @@ pub(crate) fn text_of_both(
     }
 }
 
-/// The line of the journal of a file that is lawful for the instruction of another, which an onlooker is shown.
-pub(crate) fn text_of_check<L: Onlooker, R: io::Read>(
+/// The line of the journal of a file that is lawful for the instruction of another.
+fn text_of_check<R: io::Read>(
     alloc: Global,
-    onlooker: &L,
     apt: &mut R,
     journal: &mut R,
 ) -> Result<Vec<u8>, EngineFault>
@@ -55,7 +52,6 @@ pub(crate) fn text_of_check<L: Onlooker, R: io::Read>(
     ensures order { IfErr result (IfStopped (λ last. last ≡ 0 → journal.new ≡ journal.old)) }
 {
     let both = read_own(alloc, apt, journal)?;
-    onlooker.read::<Stem>(&both.instruction, &[]);
     text_of_both(alloc, &both, replay_both(alloc, &both))
 }
 
@@ -82,6 +78,6 @@ pub fn run_check<R: io::Read, W: io::Write>(
     // Only a failed write touches the writer.
     ensures untouched { IfErr result (λ fault. fault ≢ Write → writer.new ≡ writer.old) }
 {
-    let text = text_of_check(alloc, &Nobody, apt, journal)?;
+    let text = text_of_check(alloc, apt, journal)?;
     write_text(writer, text.as_slice())
 }

@@ -8,7 +8,7 @@ ghost use Rattle.buckfleet_engine.specs.run.Serving.{RunsFiles};
 ghost use Rattle.buckfleet_engine.specs.inner.Text.{joined_in};
 
 use crate::fault::EngineFault;
-use crate::run::onlooker::{Nobody, Onlooker};
+use crate::run::onlooker::Onlooker;
 use crate::run::opening::{Open, open_both};
 use crate::run::reading::{read_instruction, read_stems};
 use crate::run::workers::SeveralThreads;
@@ -48,13 +48,11 @@ fn text_in_parts<T: Threads + Sync, L: Onlooker, R: io::Read>(
     Ok(buck_text_in_parts(workers.rt, alloc, &instruction, stems, workers.number)?)
 }
 
-/// [`run_buck`](crate::run_buck) with the stems read and cut in several threads at once: in the given number, from 1 to
-/// 64, or, if none is given, in as many as the machine has. What is written, and each fault, are those of
-/// [`run_buck`](crate::run_buck), whatever the number.
-pub fn run_buck_in_parts<T: Threads + Sync, R: io::Read, W: io::Write>(
-    rt: &T,
+/// [`run_buck`](crate::run_buck) with the stems read and cut by several threads at once, whose onlooker is shown the
+/// files. What is written, and each fault, are those of [`run_buck`](crate::run_buck), whatever the number of threads.
+pub fn run_buck_in_parts<T: Threads + Sync, L: Onlooker, R: io::Read, W: io::Write>(
+    workers: &SeveralThreads<'_, T, L>,
     alloc: Global,
-    threads: Option<u8>,
     apt: &mut R,
     stm: &mut R,
     writer: &mut W,
@@ -68,26 +66,7 @@ pub fn run_buck_in_parts<T: Threads + Sync, R: io::Read, W: io::Write>(
     // Only a failed write touches the writer.
     ensures untouched { IfErr result (λ fault. fault ≢ Write → writer.new ≡ writer.old) }
 {
-    let workers = SeveralThreads::of(rt, threads, &Nobody);
-    let pieces = text_in_parts(alloc, &workers, apt, stm)?;
-    write_pieces(writer, pieces.as_slice())
-}
-
-/// Bucks the stems of two files in several threads at once. An onlooker is shown the files.
-fn buck_opened<T: Threads + Sync, L: Onlooker, R: io::Read, W: io::Write>(
-    rt: &T,
-    alloc: Global,
-    threads: Option<u8>,
-    onlooker: &L,
-    apt: &mut R,
-    stm: &mut R,
-    writer: &mut W,
-) -> Result<(), EngineFault>
-    ensures { WritesText (AnswersBuck (R.remaining apt.old) (R.remaining stm.old))
-        (W.contents writer.old) (W.contents writer.new) result }
-{
-    let workers = SeveralThreads::of(rt, threads, onlooker);
-    let pieces = text_in_parts(alloc, &workers, apt, stm)?;
+    let pieces = text_in_parts(alloc, workers, apt, stm)?;
     write_pieces(writer, pieces.as_slice())
 }
 
@@ -106,13 +85,6 @@ pub fn serve_buck<T: Threads + Sync, L: Onlooker, O: Open, W: io::Write>(
         (W.contents writer.old) (W.contents writer.new) result }
 {
     let (mut instruction, mut stems) = open_both(opener, task.apt, task.stm)?;
-    buck_opened(
-        rt,
-        alloc,
-        task.threads,
-        onlooker,
-        &mut instruction,
-        &mut stems,
-        writer,
-    )
+    let workers = SeveralThreads::of(rt, task.threads, onlooker);
+    run_buck_in_parts(&workers, alloc, &mut instruction, &mut stems, writer)
 }

@@ -4,14 +4,13 @@ ghost use Rattle.std.specs.Io.KnownBytes.{Keeps};
 ghost use Rattle.buckfleet_engine.specs.declared.fault.EngineFault.{EngineFault};
 ghost use Rattle.buckfleet_engine.specs.text.Written.{IsWritten, WritesText};
 ghost use Rattle.buckfleet_engine.specs.Faults.{fault_line};
-ghost use Rattle.buckfleet_engine.specs.run.Checking.{AnswersCheck, AnswersJournal, IsJournalReport};
-ghost use Rattle.buckfleet_engine.specs.run.Bucking.{AnswersBare, AnswersBuck};
+ghost use Rattle.buckfleet_engine.specs.run.Checking.{AnswersJournal, IsJournalReport};
+ghost use Rattle.buckfleet_engine.specs.run.Bucking.{AnswersBare};
 ghost use Rattle.buckfleet_engine.specs.run.Reading.{apt_with};
-ghost use Rattle.buckfleet_engine.specs.run.Serving.{AppendsFirst, RunsFiles, RunsTask, TellsOutcome, status_after};
+ghost use Rattle.buckfleet_engine.specs.run.Serving.{AppendsFirst, RunsTask, TellsOutcome, status_after};
 
 use crate::fault::{EngineFault, status};
-use crate::run::bucking::{text_of_one, text_of_two};
-use crate::run::checking::text_of_check;
+use crate::run::bucking::text_of_one;
 use crate::run::onlooker::Onlooker;
 use crate::run::opening::{Open, open_both};
 use crate::run::reporting::run_report_with;
@@ -25,16 +24,6 @@ use std::io;
 pub enum Task<'a> {
     /// Both files stand on standard input, with a `|` between them.
     Bare,
-    /// The files of these names.
-    Buck {
-        apt: &'a str,
-        stm: &'a str,
-    },
-    /// A check of a journal by its instruction, in the files of these names.
-    Check {
-        apt: &'a str,
-        journal: &'a str,
-    },
     /// The report of a journal by its instruction, in the files of these names, with these numbers in the place of the
     /// instruction's own.
     Report {
@@ -42,37 +31,6 @@ pub enum Task<'a> {
         journal: &'a str,
         settings: Settings,
     },
-}
-
-/// Bucks the stems of two files, which an onlooker is shown.
-fn buck_opened<L: Onlooker, R: io::Read, W: io::Write>(
-    alloc: Global,
-    onlooker: &L,
-    apt: &mut R,
-    stm: &mut R,
-    writer: &mut W,
-) -> Result<(), EngineFault>
-    ensures { WritesText (AnswersBuck (R.remaining apt.old) (R.remaining stm.old))
-        (W.contents writer.old) (W.contents writer.new) result }
-{
-    let text = text_of_two(alloc, onlooker, apt, stm)?;
-    write_text(writer, text.as_slice())
-}
-
-/// Opens both files by their names, the instruction file first, and then bucks the stems.
-fn buck_files<L: Onlooker, O: Open, W: io::Write>(
-    alloc: Global,
-    onlooker: &L,
-    opener: &mut O,
-    apt: &str,
-    stm: &str,
-    writer: &mut W,
-) -> Result<(), EngineFault>
-    ensures { RunsFiles AnswersBuck O.opens O.File.remaining opener.old opener.new apt.now stm.now
-        (W.contents writer.old) (W.contents writer.new) result }
-{
-    let (mut instruction, mut stems) = open_both(opener, apt, stm)?;
-    buck_opened(alloc, onlooker, &mut instruction, &mut stems, writer)
 }
 
 /// Bucks the stems of an input, which an onlooker is shown.
@@ -88,42 +46,11 @@ fn buck_input<L: Onlooker, R: io::Read, W: io::Write>(
     write_text(writer, text.as_slice())
 }
 
-/// Checks a journal by an instruction file, whose instruction an onlooker is shown.
-fn check_opened<L: Onlooker, R: io::Read, W: io::Write>(
-    alloc: Global,
-    onlooker: &L,
-    apt: &mut R,
-    journal: &mut R,
-    writer: &mut W,
-) -> Result<(), EngineFault>
-    ensures { WritesText (AnswersCheck (R.remaining apt.old) (R.remaining journal.old))
-        (W.contents writer.old) (W.contents writer.new) result }
-{
-    let text = text_of_check(alloc, onlooker, apt, journal)?;
-    write_text(writer, text.as_slice())
-}
-
-/// Opens both files by their names, the instruction file first, and then checks the journal.
-fn check_files<L: Onlooker, O: Open, W: io::Write>(
-    alloc: Global,
-    onlooker: &L,
-    opener: &mut O,
-    apt: &str,
-    journal: &str,
-    writer: &mut W,
-) -> Result<(), EngineFault>
-    ensures { RunsFiles AnswersCheck O.opens O.File.remaining opener.old opener.new apt.now journal.now
-        (W.contents writer.old) (W.contents writer.new) result }
-{
-    let (mut instruction, mut journal_file) = open_both(opener, apt, journal)?;
-    check_opened(alloc, onlooker, &mut instruction, &mut journal_file, writer)
-}
-
 /// Does what the task asks for. The onlooker is shown the instruction and, if stems are cut, these.
 ///
 /// The files of a task are opened in the order of its words before one of them is read; one that can't be opened is
-/// `Read` with its number. Each fault and what is written before it are those of [`run_buck`](crate::run_buck),
-/// [`run_bare`](crate::run_bare), [`run_check`](crate::run_check) and [`run_report`](crate::run_report).
+/// `Read` with its number. Each fault and what is written before it are those of [`run_bare`](crate::run_bare) and
+/// [`run_report`](crate::run_report).
 pub fn serve<L: Onlooker, R: io::Read, O: Open, W: io::Write>(
     alloc: Global,
     task: &Task<'_>,
@@ -137,10 +64,6 @@ pub fn serve<L: Onlooker, R: io::Read, O: Open, W: io::Write>(
 {
     match task {
         Task::Bare => buck_input(alloc, onlooker, input, writer),
-        Task::Buck { apt, stm } => buck_files(alloc, onlooker, opener, *apt, *stm, writer),
-        Task::Check { apt, journal } => check_files(
-            alloc, onlooker, opener, *apt, *journal, writer,
-        ),
         Task::Report {
             apt,
             journal,

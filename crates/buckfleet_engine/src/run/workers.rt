@@ -103,9 +103,11 @@ impl Workers for OneThread {
 /// Several threads at once, and who looks on at a run.
 #[derive(Drop)]
 pub struct SeveralThreads<'a, T, L> {
-    pub(crate) rt: &'a T,
-    pub(crate) number: usize,
-    pub(crate) onlooker: &'a L,
+    /// What starts them.
+    pub rt: &'a T,
+    /// How many they are, from 1 to 64.
+    pub number: usize,
+    pub onlooker: &'a L,
     ghost some: { 0 < number },
 }
 

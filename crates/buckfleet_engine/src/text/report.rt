@@ -16,10 +16,10 @@ use std::marker::Model;
 /// How all classes stand at the end.
 #[derive(Drop)]
 pub(crate) struct Ending<'a> {
-    pub(crate) instruction: &'a Instruction,
-    pub(crate) targets: &'a [u32],
-    pub(crate) counts: &'a [u32],
-    pub(crate) prices: &'a [u32],
+    pub instruction: &'a Instruction,
+    pub targets: &'a [u32],
+    pub counts: &'a [u32],
+    pub prices: &'a [u32],
 }
 
 impl<'a> Model for Ending<'a> {
