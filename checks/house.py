@@ -83,7 +83,8 @@ WIDE = {
     "buck_page_drawings": 1,
     "buck_page_fault": 10,
     "buck_page": 8,
-    "buckfleet_engine": 10,
+    "buckfleet_engine_page": 8,
+    "buckfleet_engine": 2,
     "buckfleet_command": 1,
     "buckfleet": 4,
 }

@@ -5,9 +5,10 @@ use Rattle.std.specs.Str.{IsUtf8}
 use Rattle.buck_apt.specs.Apt.{apt_of}
 use Rattle.buck_book_postings.specs.History.{HistoryParts}
 use Rattle.buck_book_journal.specs.declared.judging.fault.ReplayFault.{ReplayFault}
-use Rattle.buckfleet_engine.specs.declared.fault.EngineFault.{EngineFault}
-use Rattle.buckfleet_engine.specs.declared.fault.EngineFault.TheVariants.{Read, Write, Apt, Stm, Journal, JournalOf, Replay, ReplayOf, Check, Seats, Full, Memory, Close}
-use Rattle.buckfleet_engine.specs.run.Viewing.{IsReadFault, ShowsAs}
+use Rattle.buckfleet_engine_files.specs.declared.fault.EngineFault.{EngineFault}
+use Rattle.buckfleet_engine_files.specs.declared.fault.EngineFault.TheVariants.{Read, Write, Apt, Stm, Journal, JournalOf, Replay, ReplayOf, Check, Seats, Full, Memory, Close}
+use Rattle.buckfleet_engine_files.specs.Checking.{IsReadFault}
+use Rattle.buckfleet_engine_page.specs.Viewing.{ShowsAs}
 use Rattle.buck_c_calls.specs.Pages.{IsTableFault}
 
 -- what is neither a failed write nor a fault of the journal's postings is the first file's that has one

@@ -3,10 +3,10 @@ use Rattle.std.proofs.Common.{◌≡◌, ◌≢◌, ◌⊎◌, ℕ, List, [], le
 use Rattle.std.specs.List.{AllZip}
 use Rattle.std.specs.Result.{IsErrAnd}
 use Rattle.buck_record.specs.Reading.{listed}
-use Rattle.buckfleet_engine.specs.declared.fault.EngineFault.{EngineFault}
-use Rattle.buckfleet_engine.specs.declared.fault.EngineFault.TheVariants.{Write}
-use Rattle.buckfleet_engine.specs.Faults.{memory_line}
-use Rattle.buckfleet_engine.specs.text.Written.{WritesText}
+use Rattle.buckfleet_engine_files.specs.declared.fault.EngineFault.{EngineFault}
+use Rattle.buckfleet_engine_files.specs.declared.fault.EngineFault.TheVariants.{Write}
+use Rattle.buckfleet_engine_files.specs.Faults.{memory_line}
+use Rattle.buckfleet_engine_files.specs.Written.{WritesText}
 use Rattle.buckfleet_terms_files.specs.declared.fault.TermsFault.{TermsFault}
 use Rattle.buckfleet_terms_files.specs.declared.fault.TermsFault.TheVariants.{Run}
 use Rattle.buckfleet_terms_files.specs.Faults.{no_memory}

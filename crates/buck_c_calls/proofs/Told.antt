@@ -1,8 +1,8 @@
 -- Each refusal is reported by the line of a fault that may come.
 use Rattle.std.proofs.Common.{◌⊎◌, ℕ, List, refl, inl, inr}
-use Rattle.buckfleet_engine.specs.declared.fault.EngineFault.{EngineFault}
-use Rattle.buckfleet_engine.specs.declared.fault.EngineFault.TheVariants.{Memory}
-use Rattle.buckfleet_engine.specs.Faults.{fault_line, memory_line, status_of}
+use Rattle.buckfleet_engine_files.specs.declared.fault.EngineFault.{EngineFault}
+use Rattle.buckfleet_engine_files.specs.declared.fault.EngineFault.TheVariants.{Memory}
+use Rattle.buckfleet_engine_files.specs.Faults.{fault_line, memory_line, status_of}
 use Rattle.buck_c_calls.specs.Room.{IsPutAs, IsPut}
 use Rattle.buck_c_calls.specs.Files.{IsToldOf}
 

@@ -3,16 +3,16 @@ use Rattle.std.proofs.Common.{◌≡◌, ◌≢◌, ◌⊎◌, ℕ, ◌+◌, Lis
 use Rattle.buck_apt.specs.Apt.{apt_of}
 use Rattle.buck_book_postings.specs.History.{HistoryParts}
 use Rattle.buck_book_journal.specs.Written.{journal_text}
-use Rattle.buckfleet_engine.specs.declared.fault.EngineFault.{EngineFault}
-use Rattle.buckfleet_engine.specs.declared.fault.EngineFault.TheVariants.{Read, Write, Apt, Stm, Journal, JournalOf, Replay, ReplayOf, Check, Seats, Full, Memory, Close}
+use Rattle.buckfleet_engine_files.specs.declared.fault.EngineFault.{EngineFault}
+use Rattle.buckfleet_engine_files.specs.declared.fault.EngineFault.TheVariants.{Read, Write, Apt, Stm, Journal, JournalOf, Replay, ReplayOf, Check, Seats, Full, Memory, Close}
 use Rattle.buckfleet_engine.specs.declared.fleet.serving.Order.{Order}
 use Rattle.buckfleet_engine.specs.declared.fleet.serving.Order.TheVariants.{InTurn}
-use Rattle.buckfleet_engine.specs.text.Report.{IsReport}
-use Rattle.buckfleet_engine.specs.tie.Ties.{FollowsRule}
+use Rattle.buckfleet_engine_text.specs.Report.{IsReport}
+use Rattle.buckfleet_engine_files.specs.Ruled.{FollowsRule}
 use Rattle.buck_rule.specs.declared.named.NamedRule.{NamedRule}
-use Rattle.buckfleet_engine.specs.Faults.{fault_line, memory_line, status_of}
-use Rattle.buckfleet_engine.specs.run.Reading.{ReadsApt}
-use Rattle.buckfleet_engine.specs.fleet.Lent.{OfWriter}
+use Rattle.buckfleet_engine_files.specs.Faults.{fault_line, memory_line, status_of}
+use Rattle.buckfleet_engine_files.specs.Reading.{ReadsApt}
+use Rattle.buckfleet_engine_files.specs.Lent.{OfWriter}
 use Rattle.buckfleet_engine.specs.fleet.Running.{AnswersFleet, IsFleetRun, IsHarvest, IsInOrder}
 use Rattle.buck_c_calls.specs.declared.turns.Texts.{Texts}
 use Rattle.buck_c_calls.specs.Room.{IsPutAs}

@@ -1,7 +1,7 @@
 -- What the calls over the bytes of files answer: a text and a status.
 use Rattle.std.specs.Prelude.{◌≡◌, ℕ, ◌⊎◌, List, Some, Ok, Err}
-use Rattle.buckfleet_engine.specs.declared.fault.EngineFault.{EngineFault}
-use Rattle.buckfleet_engine.specs.Faults.{fault_line, status_of}
+use Rattle.buckfleet_engine_files.specs.declared.fault.EngineFault.{EngineFault}
+use Rattle.buckfleet_engine_files.specs.Faults.{fault_line, status_of}
 use Rattle.buckfleet_engine.specs.run.Bucking.{AnswersBuck}
 use Rattle.buckfleet_engine.specs.run.Checking.{AnswersCheck, AnswersReport}
 

@@ -5,10 +5,11 @@ use Rattle.buck_apt.specs.Apt.{apt_of}
 use Rattle.buck_book_postings.specs.History.{IsLawful}
 use Rattle.buck_book_journal.specs.judging.Replay.{IsFirstFault}
 use Rattle.buck_book_journal.specs.declared.judging.fault.ReplayFault.{ReplayFault}
-use Rattle.buckfleet_engine.specs.declared.fault.EngineFault.{EngineFault}
-use Rattle.buckfleet_engine.specs.declared.fault.EngineFault.TheVariants.{Replay}
-use Rattle.buckfleet_engine.specs.Faults.{status_of}
-use Rattle.buckfleet_engine.specs.run.Viewing.{HaveHistory, IsReadFault}
+use Rattle.buckfleet_engine_files.specs.declared.fault.EngineFault.{EngineFault}
+use Rattle.buckfleet_engine_files.specs.declared.fault.EngineFault.TheVariants.{Replay}
+use Rattle.buckfleet_engine_files.specs.Faults.{status_of}
+use Rattle.buckfleet_engine_page.specs.Viewing.{HaveHistory}
+use Rattle.buckfleet_engine_files.specs.Checking.{IsReadFault}
 use Rattle.buck_c_calls.specs.Books.{misused}
 use Rattle.buck_c_calls.specs.Files.{IsToldOf}
 

@@ -4,12 +4,12 @@ use Rattle.std.specs.List.{concat}
 use Rattle.buck_apt.specs.Apt.{apt_of}
 use Rattle.buck_book_postings.specs.History.{HistoryParts}
 use Rattle.buck_book_journal.specs.Written.{journal_text}
-use Rattle.buckfleet_engine.specs.declared.fault.EngineFault.{EngineFault}
-use Rattle.buckfleet_engine.specs.declared.fault.EngineFault.TheVariants.{Memory}
+use Rattle.buckfleet_engine_files.specs.declared.fault.EngineFault.{EngineFault}
+use Rattle.buckfleet_engine_files.specs.declared.fault.EngineFault.TheVariants.{Memory}
 use Rattle.buckfleet_engine.specs.declared.fleet.serving.Order.TheVariants.{InTurn}
 use Rattle.buckfleet_engine.specs.fleet.Running.{AnswersFleet}
-use Rattle.buckfleet_engine.specs.text.Report.{IsReport}
-use Rattle.buckfleet_engine.specs.tie.Ties.{FollowsRule}
+use Rattle.buckfleet_engine_text.specs.Report.{IsReport}
+use Rattle.buckfleet_engine_files.specs.Ruled.{FollowsRule}
 use Rattle.buck_rule.specs.declared.named.NamedRule.{NamedRule}
 use Rattle.buck_c_calls.specs.declared.turns.Texts.{Texts}
 use Rattle.buck_c_calls.specs.Books.{misused, rule_of}

@@ -3,7 +3,7 @@ ghost use Rattle.std.specs.Prelude.{◌≡◌, ◌↔◌, IfNone, IfOk, IfErr, I
 ghost use Rattle.std.specs.List.{AllZip};
 ghost use Rattle.buck_apt.specs.Instruction.{IsWithin};
 ghost use Rattle.buck_apt.specs.Settings.{SettingsParts};
-ghost use Rattle.buckfleet_engine.specs.declared.tie.running.CrossCheck.{CrossCheck};
+ghost use Rattle.buckfleet_engine_cross_check.specs.declared.running.CrossCheck.{CrossCheck};
 ghost use Rattle.buckfleet_trial_sweep.specs.declared.combination.Combination.{Combination};
 ghost use Rattle.buck_c_calls.specs.Asked.{AreSettings, IsCombination, IsCrossCheck, draws_by, told};
 ghost use Rattle.buck_c_calls.specs.inner.Stopped.{AreUncombined};
@@ -12,7 +12,7 @@ use crate::book::rule_of;
 use crate::several::Stop;
 use buck_apt::Settings;
 use buck_rule::NamedRule;
-use buckfleet_engine::CrossCheck;
+use buckfleet_engine_cross_check::CrossCheck;
 use buckfleet_trial::Draws;
 use buckfleet_trial_sweep::Combination;
 use std::alloc::Global;

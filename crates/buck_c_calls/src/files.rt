@@ -8,7 +8,8 @@ ghost use Rattle.buck_c_calls.specs.Files.{IsBucked, IsChecked, IsReported};
 use crate::book::DONE;
 use crate::room::put;
 use crate::telling::put_fault;
-use buckfleet_engine::{EngineFault, run_buck, run_check, run_report};
+use buckfleet_engine::{run_buck, run_check, run_report};
+use buckfleet_engine_files::EngineFault;
 use std::alloc::Global;
 
 /// The version of the calls: it grows by one whenever one of them changes.

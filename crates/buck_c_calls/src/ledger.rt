@@ -7,7 +7,8 @@ ghost use Rattle.buck_c_calls.specs.inner.Stopped.{Tells};
 
 use crate::asked::{Numbers, Pair, Run, cross_check_of, settings_of};
 use crate::several::{Handed, Stop, ended, hand_over, in_terms, put_answer};
-use buckfleet_engine::{OneThread, run_check_with};
+use buckfleet_engine_cross_check::run_check_with;
+use buckfleet_engine_files::OneThread;
 use buckfleet_proceeds::{CompareTask, Opened, run_appraise, run_compare};
 use std::alloc::Global;
 

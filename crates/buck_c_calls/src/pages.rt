@@ -1,13 +1,14 @@
 //! The calls that C makes to show a journal: as a page, and as tables.
 ghost use Rattle.std.specs.Prelude.{◌≡◌, ◌≤◌, ◌↔◌, Some, IfOk, IfErr, IsSome};
-ghost use Rattle.buckfleet_engine.specs.run.Viewing.{IsReadFault};
+ghost use Rattle.buckfleet_engine_files.specs.Checking.{IsReadFault};
 ghost use Rattle.buck_c_calls.specs.Room.{IsPut};
 ghost use Rattle.buck_c_calls.specs.Pages.{IsListed, IsOfLawful, IsPage, IsTableFault, IsViewed};
 
 use crate::book::{DONE, MISUSED};
 use crate::room::put;
 use crate::telling::put_fault;
-use buckfleet_engine::{EngineFault, Files, Table, run_table, run_view, status};
+use buckfleet_engine_files::{EngineFault, status};
+use buckfleet_engine_page::{Files, Table, run_table, run_view};
 use std::alloc::Global;
 
 /// The names of two files, which stand before and after a line feed.

@@ -2,7 +2,7 @@
 //! over them ends.
 ghost use Rattle.std.specs.Prelude.{◌≡◌, ◌⊎◌, ◌<◌, ◌≤◌, ◌↔◌, Some, IfOk, IfErr, IsTrue, map, length, sum};
 ghost use Rattle.buck_record.specs.Reading.{listed};
-ghost use Rattle.buckfleet_engine.specs.Faults.{memory_line};
+ghost use Rattle.buckfleet_engine_files.specs.Faults.{memory_line};
 ghost use Rattle.buck_c_calls.specs.Room.{IsPutAs};
 ghost use Rattle.buck_c_calls.specs.Turns.{AreFiles};
 ghost use Rattle.buck_c_calls.specs.Several.{AreHanded};
@@ -11,7 +11,7 @@ ghost use Rattle.buck_c_calls.specs.inner.Stopped.{AreUnhanded, ended, in_terms,
 use crate::book::{DONE, MISUSED};
 use crate::room::put;
 use crate::telling::put_terms_fault;
-use buckfleet_engine::EngineFault;
+use buckfleet_engine_files::EngineFault;
 use buckfleet_terms_files::TermsFault;
 use std::alloc::{AllocError, AllocFailed, Global};
 

@@ -1,12 +1,12 @@
 //! The lines of faults, as the program says them.
 ghost use Rattle.std.specs.Prelude.{◌⊎◌, ◌≡◌, IfSome};
-ghost use Rattle.buckfleet_engine.specs.Faults.{fault_line, memory_line, status_of};
+ghost use Rattle.buckfleet_engine_files.specs.Faults.{fault_line, memory_line, status_of};
 ghost use Rattle.buckfleet_terms_files.specs.Faults.{terms_line, terms_status};
 ghost use Rattle.buck_c_calls.specs.Room.{IsPutAs};
 
 use crate::book::MEMORY;
 use crate::room::put;
-use buckfleet_engine::EngineFault;
+use buckfleet_engine_files::EngineFault;
 use buckfleet_terms_files::{TermsFault, status, write_terms_fault};
 use std::alloc::Global;
 

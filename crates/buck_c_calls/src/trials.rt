@@ -8,7 +8,7 @@ ghost use Rattle.buck_c_calls.specs.inner.Stopped.{Tells};
 
 use crate::asked::{DrawnRun, DrawnRuns, Run, combination_of, combinations_of, draws_of};
 use crate::several::{Handed, Stop, ended, hand_over, put_answer};
-use buckfleet_engine::Nobody;
+use buckfleet_engine_files::Nobody;
 use buckfleet_trial::{Opened, TrialTask, TuneTask, WishesTask, run_trial, run_tune, run_wishes};
 use std::alloc::Global;
 

@@ -11,7 +11,8 @@ use crate::room::put_both;
 use crate::several::{are_lengths, files_of};
 use crate::telling::put_fault;
 use buck_rule::{NamedRule, Rule, Standing};
-use buckfleet_engine::{EngineFault, run_in_turn};
+use buckfleet_engine::run_in_turn;
+use buckfleet_engine_files::EngineFault;
 use std::alloc::Global;
 
 /// How long two texts are that stand one after the other in the caller's room.

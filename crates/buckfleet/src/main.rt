@@ -11,7 +11,8 @@
 #![tactic(auto)]
 
 use buckfleet_command::{KnownFiles, Place, Screen, Streams, run, say_help};
-use buckfleet_engine::{Desk, Disk, EngineFault, conclude};
+use buckfleet_engine::conclude;
+use buckfleet_engine_files::{Desk, Disk, EngineFault};
 use std::io::{BufReader, ErrorKind, IsTerminal};
 use std::os::fd::{AsRawFd, IntoRawFd};
 use std::process::ExitCode;

@@ -1,11 +1,11 @@
 -- What comes of the work that words ask for.
 use Rattle.std.specs.Prelude.{ℕ, List, Option, Result, Ok, Err}
-use Rattle.buckfleet_engine.specs.declared.fault.EngineFault.{EngineFault}
+use Rattle.buckfleet_engine_files.specs.declared.fault.EngineFault.{EngineFault}
 use Rattle.buckfleet_engine.specs.run.Bucking.{AnswersBuck}
 use Rattle.buckfleet_engine.specs.run.Serving.{RunsFiles, RunsTask}
 use Rattle.buckfleet_engine.specs.fleet.Serving.{RunsFleet}
-use Rattle.buckfleet_engine.specs.run.Showing.{RunsView}
-use Rattle.buckfleet_engine.specs.tie.Serving.{RunsCheck}
+use Rattle.buckfleet_engine_page.specs.Showing.{RunsView}
+use Rattle.buckfleet_engine_cross_check.specs.Serving.{RunsCheck}
 use Rattle.buckfleet_live.specs.Serving.{RunsLive}
 use Rattle.buckfleet_trial_sweep.specs.Serving.{RunsSweep}
 use Rattle.buckfleet_trial.specs.Owned.{RunsOwned}

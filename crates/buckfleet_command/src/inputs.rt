@@ -2,7 +2,7 @@
 use crate::known::{Known, LIMIT};
 use crate::teller::Teller;
 use buck_apt::Instruction;
-use buckfleet_engine::{EngineFault, Make, Open};
+use buckfleet_engine_files::{EngineFault, Make, Open};
 use buckfleet_live::Replies;
 use std::alloc::Global;
 use std::cell::{Cell, RefCell};

@@ -1,5 +1,5 @@
 //! What is known of the files of a run beside their bytes.
-use buckfleet_engine::{Desk, has_folder_input, is_standard};
+use buckfleet_engine_files::{Desk, has_folder_input, is_standard};
 use buckfleet_reason::Shown;
 use std::fmt;
 use std::fs::Metadata;

@@ -4,7 +4,7 @@ use crate::reason::Inquest;
 use crate::subject::Subject;
 use buck_apt::Instruction;
 use buck_record::Memory;
-use buckfleet_engine::HasStem;
+use buckfleet_engine_files::HasStem;
 use buckfleet_notes::{first_again, first_namesake, first_untaken, is_too_long, is_unsteered};
 use buckfleet_reason::{Quoted, Several, Shown};
 use std::alloc::Global;

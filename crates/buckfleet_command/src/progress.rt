@@ -9,7 +9,7 @@ use crate::subject::Subject;
 use crate::working::Work;
 use buck_apt::Instruction;
 use buck_record::Memory;
-use buckfleet_engine::{HasStem, Make, Onlooker, Open};
+use buckfleet_engine_files::{HasStem, Make, Onlooker, Open};
 use buckfleet_reason::Shown;
 use buckfleet_trial::RunOnlooker;
 use std::alloc::Global;

@@ -6,7 +6,7 @@ use buck_apt::{AptFault, Instruction, Settings, read_apt};
 use buck_book_journal::{Journal, JournalFault, ReplayFault, read_journal};
 use buck_record::Memory;
 use buck_stem::{StmFault, read_stm};
-use buckfleet_engine::{CheckFault, EngineFault};
+use buckfleet_engine_files::{CheckFault, EngineFault};
 use buckfleet_reason::{Here, Said, Source, apt_reason, journal_reason, stm_reason};
 use buckfleet_reason_replay::{
     Mispriced, Tied, Unlawful, WrongTargets, replay_reason, rule_reason,

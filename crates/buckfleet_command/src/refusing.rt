@@ -1,6 +1,6 @@
 //! Why a request is refused, in words.
 use buck_apt::Instruction;
-use buckfleet_engine::EngineFault;
+use buckfleet_engine_files::EngineFault;
 use buckfleet_live::{Asked, read_request};
 use buckfleet_reason::{Said, Source, request_reason};
 use buckfleet_reason_replay::WrongTargets;

@@ -3,7 +3,7 @@ use crate::progress::Screen;
 use crate::refusing::refusal;
 use crate::subject::INPUT;
 use buck_apt::Instruction;
-use buckfleet_engine::EngineFault;
+use buckfleet_engine_files::EngineFault;
 use buckfleet_reason::Source;
 use std::alloc::Global;
 use std::cell::{Cell, RefCell};

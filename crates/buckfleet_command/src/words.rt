@@ -8,9 +8,9 @@ use crate::subject::Subject;
 use crate::working::Work;
 use buck_record::Memory;
 use buck_rule::NamedRule;
-use buckfleet_engine::{
-    BuckTask, CheckTask, CrossCheck, FleetTask, Order, Settings, Shown, Table, Task, ViewTask,
-};
+use buckfleet_engine::{BuckTask, FleetTask, Order, Settings, Task};
+use buckfleet_engine_cross_check::{CheckTask, CrossCheck};
+use buckfleet_engine_page::{Shown, Table, ViewTask};
 use buckfleet_live::LiveTask;
 use buckfleet_proceeds::{AppraiseTask, CompareTask};
 use buckfleet_trial::{Draws, OwnedTask, TrialTask, TuneTask, WishesTask};

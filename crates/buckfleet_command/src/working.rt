@@ -2,10 +2,10 @@
 ghost use Rattle.std.specs.Prelude.{◌≡◌};
 ghost use Rattle.buckfleet_command.specs.Work.{DoesWork};
 
-use buckfleet_engine::{
-    BuckTask, CheckTask, FleetTask, Make, Open, Task, ViewTask, serve, serve_buck, serve_check,
-    serve_fleet, serve_view,
-};
+use buckfleet_engine::{BuckTask, FleetTask, Task, serve, serve_buck, serve_fleet};
+use buckfleet_engine_cross_check::{CheckTask, serve_check};
+use buckfleet_engine_files::{Make, Open};
+use buckfleet_engine_page::{ViewTask, serve_view};
 use buckfleet_live::{LiveTask, Replies, serve_live};
 use buckfleet_proceeds::{AppraiseTask, CompareTask, serve_appraise, serve_compare};
 use buckfleet_terms_files::TermsFault;

@@ -4,10 +4,10 @@ use Rattle.std.specs.Io.KnownBytes.{Appends}
 use Rattle.std.proofs.KnownBytes.{Keeps-refl}
 use Rattle.buck_book_postings.specs.History.{HistoryParts}
 use Rattle.buck_book_journal.specs.Written.{journal_text}
-use Rattle.buckfleet_engine.specs.declared.fault.EngineFault.{EngineFault}
-use Rattle.buckfleet_engine.specs.fleet.Lent.{of_writer}
-use Rattle.buckfleet_engine.specs.text.Written.{AppendsSome, IsWritten}
-use Rattle.buckfleet_engine.specs.text.Report.{IsReport}
+use Rattle.buckfleet_engine_files.specs.declared.fault.EngineFault.{EngineFault}
+use Rattle.buckfleet_engine_files.specs.Lent.{of_writer}
+use Rattle.buckfleet_engine_files.specs.Written.{AppendsSome, IsWritten}
+use Rattle.buckfleet_engine_text.specs.Report.{IsReport}
 use Rattle.buckfleet_engine.specs.inner.Fleet.{AreWritten}
 
 -- the journal stopped, and nothing was written of the report

@@ -1,40 +1,24 @@
 -- Stem files that are read one after the other.
-use Rattle.std.proofs.Common.{◌≡◌, ℕ, zero, suc, ◌+◌, ◌<◌, ◌⊎◌, inl, inr, List, [], ◌∷◌, ◌++◌, length, map, drop, get_or, set, Option, None, Result, Ok, Err, refl, sym, ap, subst, ◌∙◌, arith}
+use Rattle.std.proofs.Common.{◌≡◌, ℕ, zero, suc, ◌+◌, ◌<◌, ◌⊎◌, inl, inr, List, [], ◌∷◌, ◌++◌, length, map, Option, None, Result, Ok, Err, refl, sym, ap, subst, ◌∙◌, arith}
 use Rattle.std.specs.Result.{IfErr, IsErrAnd}
 use Rattle.std.specs.declared.sync.Arc.{Arc}
 use Rattle.std.specs.declared.vec.Vec.{Vec}
 use Rattle.std.specs.declared.alloc.Global.{Global}
 use Rattle.std.specs.Arc.{arc_value}
 use Rattle.std.specs.Prelude.{slice_index_or, sum_by}
-use Rattle.std.proofs.lemmas.List.{drop-set-lt, get_or-drop, get_or-map, length-map}
-use Rattle.std.proofs.lemmas.Grind.{drop_more_same}
+use Rattle.std.proofs.lemmas.List.{length-map}
 use Rattle.std.proofs.lemmas.List.Sums.{sum_by-cons}
 use Rattle.buck_apt.specs.Apt.{apt_of}
 use Rattle.buck_stem.specs.Stem.{StemParts}
 use Rattle.buck_stem.specs.declared.stem.Stem.{Stem}
 use Rattle.buck_stem.specs.file.Stm.{stm_of}
 use Rattle.buck_book_postings.specs.Replies.{stems_of, stems_at}
-use Rattle.buckfleet_engine.specs.declared.fault.EngineFault.{EngineFault}
+use Rattle.buckfleet_engine_files.specs.declared.fault.EngineFault.{EngineFault}
 use Rattle.buck_fleet_round_robin.specs.Turn.{stems_in_all}
-use Rattle.buckfleet_engine.specs.declared.fault.EngineFault.TheVariants.{Full, Memory}
-use Rattle.buckfleet_engine.specs.run.Reading.{IsAccepted, IsStmFault, Says}
-use Rattle.buckfleet_engine.specs.fleet.Running.{AreListsOf, AreAccepted, HaveTooMany, IsCuttingFault, IsFleetFault, IsListFault}
-
--- what stands at a place of what is left as it was
-pub same_place : {A : Type 0} (f : A → Option (List ℕ)) (now old : List A) (k : ℕ) (x : A) → k < length old
-    → drop k now ≡ drop k old → f (get_or now k x) ≡ get_or (map f old) k None
-same_place f now old k x lt same =
-    let none : k + 0 ≡ k = omega arith in
-    let a : get_or now k x ≡ get_or (drop k now) 0 x =
-    sym (get_or-drop k now 0 x ∙ ap (λ (n : ℕ). get_or now n x) none) in
-    let b : get_or (drop k old) 0 x ≡ get_or old k x = get_or-drop k old 0 x ∙ ap (λ (n : ℕ). get_or old n x) none in
-    let there : get_or now k x ≡ get_or old k x = a ∙ ap (λ (l : List _). get_or l 0 x) same ∙ b in
-    ap f there ∙ sym (get_or-map f old k x None lt)
-
--- and of the places after it, if it is replaced
-pub same_rest : {A : Type 0} (now old : List A) (k : ℕ) (y : A) → drop k now ≡ drop k old
-    → drop (k + 1) (set now k y) ≡ drop (k + 1) old
-same_rest now old k y same = drop-set-lt (k + 1) now k y (omega arith) ∙ drop_more_same now old k same
+use Rattle.buckfleet_engine_files.specs.declared.fault.EngineFault.TheVariants.{Full, Memory}
+use Rattle.buckfleet_engine_files.specs.Reading.{IsAccepted, IsStmFault, Says}
+use Rattle.buckfleet_engine.specs.fleet.Running.{AreListsOf, HaveTooMany, IsCuttingFault, IsFleetFault, IsListFault}
+use Rattle.buckfleet_engine_files.specs.Listed.{AreAccepted}
 
 -- the stems of a list before the last, and of the last
 stems_before : (lists : List (Vec (Arc Stem Global) Global)) (list : Vec (Arc Stem Global) Global) (j : ℕ)

@@ -5,11 +5,11 @@ use Rattle.std.specs.List.{after_first, before_first, position_or_len}
 use Rattle.std.specs.Option.{option_map}
 use Rattle.buck_apt.specs.Apt.{apt_of}
 use Rattle.buck_stem.specs.file.Stm.{stm_of}
-use Rattle.buckfleet_engine.specs.declared.fault.EngineFault.{EngineFault}
-use Rattle.buckfleet_engine.specs.declared.fault.EngineFault.TheVariants.{Apt, Stm}
-use Rattle.buckfleet_engine.specs.run.Reading.{IsFileFault, IsWithinLimit, Says}
+use Rattle.buckfleet_engine_files.specs.declared.fault.EngineFault.{EngineFault}
+use Rattle.buckfleet_engine_files.specs.declared.fault.EngineFault.TheVariants.{Apt, Stm}
+use Rattle.buckfleet_engine_files.specs.Reading.{IsFileFault, IsWithinLimit, Says, AreRefused}
 use Rattle.buckfleet_engine.specs.run.Bucking.{AnswersBare, apt_part, is_bar, stm_part}
-use Rattle.buckfleet_engine.specs.inner.Reading.{AnswersBytes, AreRefused}
+use Rattle.buckfleet_engine.specs.inner.Reading.{AnswersBytes}
 
 -- what the bytes say that a file gave
 pub says : {V F : Type 0} (reading : List ℕ → Result V F) (file : Option (List ℕ)) (bytes : List ℕ)

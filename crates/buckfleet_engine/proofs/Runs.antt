@@ -4,34 +4,15 @@ use Rattle.std.specs.Result.{IsErrAnd}
 use Rattle.std.specs.Io.KnownBytes.{Keeps}
 use Rattle.std.proofs.KnownBytes.{Keeps-refl}
 use Rattle.buck_book_postings.specs.History.{HistoryParts}
-use Rattle.buckfleet_engine.specs.declared.fault.EngineFault.{EngineFault}
-use Rattle.buckfleet_engine.specs.declared.fault.EngineFault.TheVariants.{Write, Seats, Memory}
+use Rattle.buckfleet_engine_files.specs.declared.fault.EngineFault.{EngineFault}
+use Rattle.buckfleet_engine_files.specs.declared.fault.EngineFault.TheVariants.{Write, Seats, Memory}
 use Rattle.buckfleet_engine.specs.declared.fleet.serving.Order.{Order}
 use Rattle.buckfleet_engine.specs.declared.fleet.serving.Order.TheVariants.{AtOnce, InTurn}
-use Rattle.buckfleet_engine.specs.run.Reading.{IsFileFault, ReadsApt}
-use Rattle.buckfleet_engine.specs.text.Written.{IsRun}
+use Rattle.buckfleet_engine_files.specs.Reading.{ReadsApt}
 use Rattle.buckfleet_engine.specs.fleet.Running.{AnswersFleet, AreNoSeats, IsFleetFault, IsFleetRun, IsFullInOrder, IsHarvest, IsInOrder, WroteAll, WroteSome}
-use Rattle.buckfleet_engine.specs.fleet.Lent.{OfWriter}
+use Rattle.buckfleet_engine_files.specs.Lent.{OfWriter}
 use Rattle.buckfleet_engine.specs.inner.Fleet.{AreWritten}
-
--- a fault other than that of a writer
-abbrev pub IsNoWrite : EngineFault → Type 0
-IsNoWrite Write = ⊥
-IsNoWrite _ = Unit {0}
-
-pub file_fault : {V F : Type 0} (number : ℕ) (named : F → EngineFault) (reading : List ℕ → Result V F)
-    (file : Option (List ℕ)) (fault : EngineFault)
-    → ((why : F) → IsNoWrite (named why)) → IsFileFault number named reading file fault → IsNoWrite fault
-file_fault number named reading file fault none (inl read) = subst IsNoWrite (sym read) tt
-file_fault number named reading file fault none (inr (inl memory)) = subst IsNoWrite (sym memory) tt
-file_fault number named reading file fault none (inr (inr (why, is, e))) = subst IsNoWrite (sym is) (none why)
-
--- a run that has a fault for an answer
-pub no_answer : {T : Type 0} (Answers : Result T EngineFault → Type 0) (Whole Part : T → Type 0) (Nothing : Type 0)
-    (fault : EngineFault)
-    → IsNoWrite fault → Answers (Err fault) → Nothing → IsRun Answers Whole Part Nothing (Err fault)
-no_answer Answers Whole Part Nothing Write other a kept = absurd other
-no_answer Answers Whole Part Nothing fault other a kept = (a, kept)
+use Rattle.buckfleet_engine_files.proofs.Runs.{IsNoWrite, file_fault, no_answer}
 
 -- the same of a fleet
 pub fleet_fault : (apt : Option (List ℕ)) (stms : List (Option (List ℕ))) (fault : EngineFault)

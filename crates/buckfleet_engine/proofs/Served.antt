@@ -2,34 +2,21 @@
 use Rattle.std.proofs.Common.{◌≡◌, ℕ, List, Option, Some, None, Result, Ok, length, map, subst}
 use Rattle.std.proofs.lemmas.List.{length-map}
 use Rattle.std.specs.Option.{option_map}
-use Rattle.std.specs.Io.KnownBytes.{Keeps}
-use Rattle.std.proofs.KnownBytes.{Keeps-refl}
 use Rattle.buck_book_postings.specs.History.{HistoryParts}
-use Rattle.buckfleet_engine.specs.declared.fault.EngineFault.{EngineFault}
+use Rattle.buckfleet_engine_files.specs.declared.fault.EngineFault.{EngineFault}
 use Rattle.buckfleet_engine.specs.declared.fleet.serving.FleetTask.{FleetTask}
 use Rattle.buckfleet_engine.specs.declared.fleet.serving.Order.{Order}
-use Rattle.buckfleet_engine.specs.fleet.Lent.{OfWriter, no_writer, of_made, of_writer}
+use Rattle.buckfleet_engine_files.specs.Lent.{of_made}
 use Rattle.buckfleet_engine.specs.fleet.Running.{AreNoSeats, IsFleetRun}
 use Rattle.buckfleet_engine.specs.fleet.Serving.{RunsFleet, RunsInputs}
-use Rattle.buckfleet_engine.specs.run.Opening.{AnswersInputs, MakesJournal}
-use Rattle.buckfleet_engine.specs.run.Reading.{ReadsApt, apt_with}
-use Rattle.buckfleet_engine.specs.tie.Ties.{FollowsRule}
+use Rattle.buckfleet_engine_files.specs.Opening.{AnswersInputs, MakesJournal}
+use Rattle.buckfleet_engine_files.specs.Reading.{ReadsApt, apt_with}
+use Rattle.buckfleet_engine_files.specs.Ruled.{FollowsRule}
 
 -- as many seats as files
 pub of_files : {F : Type 0} (held : F → Option (List ℕ)) (files : List F) → AreNoSeats (length (map held files))
     → AreNoSeats (length files)
 of_files held files none = subst AreNoSeats (length-map files held) none
-
--- nothing was written into the file that was made
-pub nothing_made : {M : Type 0} (contents : M → Option (List ℕ)) (made : Option M) (P : OfWriter → Type 0)
-    → ((o : OfWriter) → o Keeps → P o) → of_made contents made P
-nothing_made contents None P so = so no_writer tt
-nothing_made contents (Some made) P so = (made, so (of_writer (contents made) (contents made)) (Keeps-refl _))
-
-pub made_so : {M : Type 0} (contents : M → Option (List ℕ)) (made : Option M) (P Q : OfWriter → Type 0)
-    → ((o : OfWriter) → P o → Q o) → of_made contents made P → of_made contents made Q
-made_so contents None P Q so p = so no_writer p
-made_so contents (Some made) P Q so (left, p) = (left, so (of_writer (contents made) (contents left)) p)
 
 -- the journal goes into the file that was made for it
 inputs_run : {O F M : Type 0} (makes : O → List ℕ → Option M → O → Type 0) (held : F → Option (List ℕ))

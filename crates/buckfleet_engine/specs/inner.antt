@@ -1,7 +1,3 @@
+pub mod Fleet
 pub mod Reading
 pub mod Text
-pub mod Report
-pub mod Fleet
-pub mod View
-pub mod Several
-pub mod Tie

@@ -2,7 +2,7 @@
 use Rattle.buckfleet_live.proofs.Words.{ℕ, Bool, true, false, inl, inr, List, [], ◌∷◌, ◌++◌, Option, Some, None, Result, Ok, Err, length, refl, sym, subst, append-nil, le_refl, take_all, Appends-kept, Appends-nil, Appends-trans, Appends}
 use Rattle.buckfleet_live.proofs.Words.{Keeps, HistoryParts}
 use Rattle.buckfleet_live.proofs.Words.{EngineFault, Read, lines_of, AnswersLine, HasAnswered, IsLiveRun, HasLines, IsRead, IsSaid}
-use Rattle.buckfleet_engine.specs.run.Serving.{AppendsFirst}
+use Rattle.buckfleet_engine_files.specs.Written.{AppendsFirst}
 
 -- what is left
 left_of : (input : Option (List ℕ)) → (left : List (Option (List ℕ))) × HasLines input left

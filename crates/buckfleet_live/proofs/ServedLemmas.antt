@@ -1,9 +1,9 @@
 -- Runs of requests over files that were opened and made.
 use Rattle.buckfleet_live.proofs.Words.{◌≡◌, ℕ, inl, List, Option, Result, Ok, Err, ap, Keeps-refl, EngineFault, AnswersLive}
 use Rattle.std.specs.Result.{IsErrAnd}
-use Rattle.buckfleet_engine.specs.run.Reading.{IsAptFault}
-use Rattle.buckfleet_engine.specs.fleet.Lent.{of_made}
-use Rattle.buckfleet_engine.proofs.Served.{nothing_made}
+use Rattle.buckfleet_engine_files.specs.Reading.{IsAptFault}
+use Rattle.buckfleet_engine_files.specs.Lent.{of_made}
+use Rattle.buckfleet_engine_files.proofs.Made.{nothing_made}
 use Rattle.buckfleet_live.specs.declared.serving.LiveTask.{LiveTask}
 
 -- the instruction is refused, or memory runs out

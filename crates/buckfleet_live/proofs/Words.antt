@@ -15,8 +15,8 @@ pub use Rattle.buck_book_journal.specs.reading.Journal.{logs_of}
 pub use Rattle.buck_book_journal.proofs.Tuples.{three, next_log}
 pub use Rattle.buckfleet_live.specs.Request.{are_low, in_turn, stem_text}
 pub use Rattle.std.specs.Io.KnownBytes.{Appends, Keeps}
-pub use Rattle.buckfleet_engine.specs.declared.fault.EngineFault.{EngineFault}
-pub use Rattle.buckfleet_engine.specs.declared.fault.EngineFault.TheVariants.{Read}
+pub use Rattle.buckfleet_engine_files.specs.declared.fault.EngineFault.{EngineFault}
+pub use Rattle.buckfleet_engine_files.specs.declared.fault.EngineFault.TheVariants.{Read}
 pub use Rattle.buckfleet_live.specs.Live.{HasAnswered, IsLiveRun}
 pub use Rattle.buckfleet_live.specs.inner.Running.{IsSaid, GoesOn}
 pub use Rattle.buckfleet_live.specs.Serving.{AnswersLive, KeepsJournal}

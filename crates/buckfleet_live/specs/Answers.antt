@@ -19,10 +19,10 @@ use Rattle.buck_book_postings.specs.Entry.{EntryParts, DemandParts}
 use Rattle.buck_book_postings.specs.Targets.{IsTargetsFault}
 use Rattle.buck_book_postings.specs.History.{HistoryParts, in_force}
 use Rattle.buck_book_cutter.specs.Cut.{AnyPrices, HasCut, HasRetargeted}
-use Rattle.buckfleet_engine.specs.declared.fault.EngineFault.TheVariants.{Read, Stm, Full}
-use Rattle.buckfleet_engine.specs.Faults.{fault_line, memory_line}
-use Rattle.buckfleet_engine.specs.text.Bucking.{log_line, named_line_of, stem_lines}
-use Rattle.buckfleet_engine.specs.text.Report.{posting_line}
+use Rattle.buckfleet_engine_files.specs.declared.fault.EngineFault.TheVariants.{Read, Stm, Full}
+use Rattle.buckfleet_engine_files.specs.Faults.{fault_line, memory_line}
+use Rattle.buckfleet_engine_text.specs.Bucking.{log_line, named_line_of, stem_lines}
+use Rattle.buckfleet_engine_text.specs.Report.{posting_line}
 use Rattle.buckfleet_live.specs.Request.{request_of}
 use Rattle.buckfleet_live.specs.declared.request.Asked.{Asked}
 use Rattle.buckfleet_live.specs.declared.request.Asked.TheVariants.{Stem, Preview, Own, Targets}

@@ -2,9 +2,9 @@
 use Rattle.std.specs.Prelude.{◌≡◌, ◌⊎◌, ℕ, List, [], ◌∷◌, ◌++◌, Option, Result, Ok, Err, IfSome}
 use Rattle.std.specs.Io.KnownBytes.{Appends}
 use Rattle.buck_book_postings.specs.History.{HistoryParts}
-use Rattle.buckfleet_engine.specs.declared.fault.EngineFault.{EngineFault}
-use Rattle.buckfleet_engine.specs.declared.fault.EngineFault.TheVariants.{Read, Write}
-use Rattle.buckfleet_engine.specs.run.Serving.{AppendsFirst}
+use Rattle.buckfleet_engine_files.specs.declared.fault.EngineFault.{EngineFault}
+use Rattle.buckfleet_engine_files.specs.declared.fault.EngineFault.TheVariants.{Read, Write}
+use Rattle.buckfleet_engine_files.specs.Written.{AppendsFirst}
 use Rattle.buckfleet_live.specs.Lines.{lines_of}
 use Rattle.buckfleet_live.specs.Answers.{AnswersLine, AnswersAll}
 

@@ -8,13 +8,13 @@ use Rattle.buck_apt.specs.Instruction.{InstructionParts}
 use Rattle.buck_apt.specs.Settings.{with_settings}
 use Rattle.buck_book_postings.specs.History.{HistoryParts, IsLawful}
 use Rattle.buck_book_journal.specs.Written.{journal_text}
-use Rattle.buckfleet_engine.specs.declared.fault.EngineFault.{EngineFault}
-use Rattle.buckfleet_engine.specs.declared.fault.EngineFault.TheVariants.{Write, Memory}
-use Rattle.buckfleet_engine.specs.run.Opening.{AnswersInputs, MakesJournal}
-use Rattle.buckfleet_engine.specs.run.Reading.{IsAptFault, Says}
-use Rattle.buckfleet_engine.specs.fleet.Lent.{OfWriter, of_made}
-use Rattle.buckfleet_engine.specs.text.Written.{AppendsSome}
-use Rattle.buckfleet_engine.specs.tie.Ties.{FollowsRule}
+use Rattle.buckfleet_engine_files.specs.declared.fault.EngineFault.{EngineFault}
+use Rattle.buckfleet_engine_files.specs.declared.fault.EngineFault.TheVariants.{Write, Memory}
+use Rattle.buckfleet_engine_files.specs.Opening.{AnswersInputs, MakesJournal}
+use Rattle.buckfleet_engine_files.specs.Reading.{IsAptFault, Says}
+use Rattle.buckfleet_engine_files.specs.Lent.{OfWriter, of_made}
+use Rattle.buckfleet_engine_files.specs.Written.{AppendsSome}
+use Rattle.buckfleet_engine_files.specs.Ruled.{FollowsRule}
 use Rattle.buck_book_cutter.specs.Cut.{opening}
 use Rattle.buckfleet_live.specs.Live.{IsLiveRun}
 use Rattle.buckfleet_live.specs.declared.serving.LiveTask.{LiveTask}

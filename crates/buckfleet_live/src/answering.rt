@@ -7,8 +7,8 @@ ghost use Rattle.buck_book_postings.specs.Book.{demand_of};
 ghost use Rattle.buck_book_postings.specs.Plan.{IsPlan};
 ghost use Rattle.buck_book_postings.specs.declared.posting.Posting.TheVariants.{Demand};
 ghost use Rattle.buck_book_cutter.specs.Cut.{StaysByRule};
-ghost use Rattle.buckfleet_engine.specs.text.Bucking.{log_line, stem_lines};
-ghost use Rattle.buckfleet_engine.specs.text.Report.{posting_line};
+ghost use Rattle.buckfleet_engine_text.specs.Bucking.{log_line, stem_lines};
+ghost use Rattle.buckfleet_engine_text.specs.Report.{posting_line};
 ghost use Rattle.buckfleet_live.specs.Answers.{AnswersLine, JudgesOwn, PreviewsStem, own_line, targets_numbers};
 ghost use Rattle.buckfleet_live.specs.inner.Answering.{AnswersOne, told};
 ghost use Rattle.buckfleet_live.specs.inner.Reading.{held_line};
@@ -23,11 +23,12 @@ use buck_record::{Listed, Memory, put_line, put_numbers};
 use buck_rule::Standing;
 use buck_stem::{Stem, StmFault};
 use buck_value::Log;
-use buckfleet_engine::{EngineFault, put_logs, put_stem};
+use buckfleet_engine_files::EngineFault;
+use buckfleet_engine_text::{put_logs, put_stem};
 use std::alloc::Global;
 use std::sync::Arc;
 
-#[tactic(auto, using(buckfleet_engine::proofs::TextLemmas::all_allowed))]
+#[tactic(auto, using(buckfleet_engine_text::proofs::TextLemmas::all_allowed))]
 fn put_planned(out: &mut Vec<u8>, plan: &Plan) -> Result<(), Memory>
     ensures put { OnOk result
         (out.new.items ≡ out.old.items ++ flat_map (log_line plan.now.sheet plan.now.stem) plan.now.logs) }
@@ -38,7 +39,7 @@ fn put_planned(out: &mut Vec<u8>, plan: &Plan) -> Result<(), Memory>
 }
 
 /// The lines of a stem that is cut as planned.
-#[tactic(auto, unfolding(buckfleet_engine::specs::text::Bucking::stem_lines))]
+#[tactic(auto, unfolding(buckfleet_engine_text::specs::Bucking::stem_lines))]
 fn stem_text(alloc: Global, plan: &Plan) -> Result<Vec<u8>, Memory>
     ensures { IfOk result (λ text.
         text.items ≡ stem_lines plan.now.sheet (record { stem = plan.now.stem; logs = plan.now.logs })) }

@@ -17,7 +17,7 @@ use buck_book_cutter::Cutter;
 use buck_book_postings::MOST_POSTINGS;
 use buck_record::Memory;
 use buck_rule::{Rule, Standing};
-use buckfleet_engine::{EngineFault, write_fault, write_text};
+use buckfleet_engine_files::{EngineFault, write_fault, write_text};
 use std::alloc::Global;
 use std::io;
 use std::marker::Model;

@@ -2,7 +2,7 @@
 ghost use Rattle.std.specs.Prelude.{◌≡◌};
 
 use buck_apt::Instruction;
-use buckfleet_engine::EngineFault;
+use buckfleet_engine_files::EngineFault;
 use std::io;
 
 /// A writer of answers. It hears of each line and of its answer before that is written to it, and may say elsewhere, to

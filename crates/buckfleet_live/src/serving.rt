@@ -1,9 +1,9 @@
 //! Whole runs of requests.
 ghost use Rattle.std.specs.Prelude.{◌≡◌, ℕ, IfErr, IfOk, List, Ok, Option};
 ghost use Rattle.buck_apt.specs.Apt.{apt_of};
-ghost use Rattle.buckfleet_engine.specs.declared.fault.EngineFault.{EngineFault};
-ghost use Rattle.buckfleet_engine.specs.run.Reading.{Says};
-ghost use Rattle.buckfleet_engine.specs.fleet.Lent.{of_made, of_writer};
+ghost use Rattle.buckfleet_engine_files.specs.declared.fault.EngineFault.{EngineFault};
+ghost use Rattle.buckfleet_engine_files.specs.Reading.{Says};
+ghost use Rattle.buckfleet_engine_files.specs.Lent.{of_made, of_writer};
 ghost use Rattle.buck_book_cutter.specs.Cut.{opening};
 ghost use Rattle.buckfleet_live.specs.Serving.{AnswersLive, KeepsJournal, RunsLive};
 
@@ -12,7 +12,7 @@ use crate::replies::Replies;
 use buck_apt::{Instruction, Settings};
 use buck_rule::{NamedRule, Rule, Standing};
 use buck_stem::Stem;
-use buckfleet_engine::{
+use buckfleet_engine_files::{
     EngineFault, Make, Onlooker, Open, make_journal, open_inputs, read_instruction, write_text,
 };
 use std::alloc::Global;

@@ -12,10 +12,10 @@ use Rattle.buck_book_journal.specs.declared.judging.fault.ReplayFault.{ReplayFau
 use Rattle.buck_book_journal.specs.reading.Journal.{JournalParts}
 use Rattle.buck_book_journal.specs.judging.Replay.{IsFirstFault, history_of}
 use Rattle.buck_page_figures.specs.Journals.{postings_of}
-use Rattle.buckfleet_engine.specs.declared.fault.EngineFault.{EngineFault}
-use Rattle.buckfleet_engine.specs.declared.fault.EngineFault.TheVariants.{Memory, ReplayOf}
-use Rattle.buckfleet_engine.specs.run.Reading.{Says, apt_with}
-use Rattle.buckfleet_engine.specs.run.Several.{AreLawful, HaveJournals, IsFirstUnlawful, IsSeveralFault, replay_fault}
+use Rattle.buckfleet_engine_files.specs.declared.fault.EngineFault.{EngineFault}
+use Rattle.buckfleet_engine_files.specs.declared.fault.EngineFault.TheVariants.{Memory, ReplayOf}
+use Rattle.buckfleet_engine_files.specs.Reading.{Says, apt_with}
+use Rattle.buckfleet_engine_files.specs.Several.{AreLawful, HaveJournals, IsFirstUnlawful, IsSeveralFault, replay_fault}
 use Rattle.buckfleet_terms_files.specs.declared.fault.TermsFault.{TermsFault}
 use Rattle.buckfleet_terms_files.specs.declared.fault.TermsFault.TheVariants.{Run}
 use Rattle.buckfleet_terms_files.specs.Own.{HasShapeOf}

@@ -8,9 +8,9 @@ use Rattle.buck_apt.specs.Instruction.{InstructionParts}
 use Rattle.buck_book_postings.specs.declared.posting.TheConstants.{MOST_POSTINGS}
 use Rattle.buck_book_journal.specs.reading.Journal.{JournalParts}
 use Rattle.buck_page_figures.specs.Journals.{postings_of}
-use Rattle.buckfleet_engine.specs.run.Reading.{Says, apt_with}
-use Rattle.buckfleet_engine.specs.run.Several.{HaveJournals}
-use Rattle.buckfleet_engine.proofs.Numbers.{own_reads}
+use Rattle.buckfleet_engine_files.specs.Reading.{Says, apt_with}
+use Rattle.buckfleet_engine_files.specs.Several.{HaveJournals}
+use Rattle.buckfleet_engine_files.proofs.Numbers.{own_reads}
 use Rattle.buckfleet_proceeds.specs.Comparison.{SaysTwo}
 
 -- two of them

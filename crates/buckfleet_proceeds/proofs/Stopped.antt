@@ -8,14 +8,14 @@ use Rattle.buck_apt.specs.Instruction.{InstructionParts}
 use Rattle.buck_apt.specs.Apt.{apt_of}
 use Rattle.buck_apt.specs.Settings.{SettingsParts}
 use Rattle.buck_book_journal.specs.reading.Journal.{journal_of}
-use Rattle.buckfleet_engine.specs.declared.fault.EngineFault.{EngineFault}
-use Rattle.buckfleet_engine.specs.declared.fault.EngineFault.TheVariants.{Read, Write, Apt, Stm, Journal, JournalOf, Replay, ReplayOf, Check, Seats, Full, Memory, Close}
-use Rattle.buckfleet_engine.specs.run.Several.{IsSeveralFault, journal_fault}
-use Rattle.buckfleet_engine.specs.text.Written.{AppendsSome, IsWritten, WritesText}
-use Rattle.buckfleet_engine.proofs.Runs.{IsNoWrite, file_fault, no_answer}
+use Rattle.buckfleet_engine_files.specs.declared.fault.EngineFault.{EngineFault}
+use Rattle.buckfleet_engine_files.specs.declared.fault.EngineFault.TheVariants.{Read, Write, Apt, Stm, Journal, JournalOf, Replay, ReplayOf, Check, Seats, Full, Memory, Close}
+use Rattle.buckfleet_engine_files.specs.Several.{IsSeveralFault, journal_fault}
+use Rattle.buckfleet_engine_files.specs.Written.{AppendsSome, IsWritten, WritesText}
+use Rattle.buckfleet_engine_files.proofs.Runs.{IsNoWrite, file_fault, no_answer}
 use Rattle.buckfleet_terms_files.specs.declared.fault.TermsFault.{TermsFault}
 use Rattle.buckfleet_terms_files.specs.declared.fault.TermsFault.TheVariants.{Run, Targets, Own}
-use Rattle.buckfleet_engine.specs.run.Opening.{AnswersInputs}
+use Rattle.buckfleet_engine_files.specs.Opening.{AnswersInputs}
 use Rattle.buckfleet_terms_files.specs.Reading.{AnswersLast, IsOwnFileFault}
 use Rattle.buckfleet_terms_files.specs.Telling.{WritesTerms}
 use Rattle.buckfleet_proceeds.specs.declared.task.CompareTask.{CompareTask}

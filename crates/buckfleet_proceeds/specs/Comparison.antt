@@ -8,10 +8,10 @@ use Rattle.buck_book_postings.specs.declared.posting.TheConstants.{MOST_POSTINGS
 use Rattle.buck_book_journal.specs.reading.Journal.{JournalParts}
 use Rattle.buck_book_journal.specs.judging.Replay.{IsFirstFault, history_of}
 use Rattle.buck_page_figures.specs.Journals.{postings_of}
-use Rattle.buckfleet_engine.specs.declared.fault.EngineFault.{EngineFault}
-use Rattle.buckfleet_engine.specs.declared.fault.EngineFault.TheVariants.{Memory, ReplayOf}
-use Rattle.buckfleet_engine.specs.run.Reading.{Says}
-use Rattle.buckfleet_engine.specs.run.Several.{HaveJournals, IsSeveralFault}
+use Rattle.buckfleet_engine_files.specs.declared.fault.EngineFault.{EngineFault}
+use Rattle.buckfleet_engine_files.specs.declared.fault.EngineFault.TheVariants.{Memory, ReplayOf}
+use Rattle.buckfleet_engine_files.specs.Reading.{Says}
+use Rattle.buckfleet_engine_files.specs.Several.{HaveJournals, IsSeveralFault}
 
 -- the instruction and the two journals that files have, of at most 1,000,000 postings together
 pub record SaysTwo (apt : Option (List ℕ)) (files : List (Option (List ℕ))) (i : InstructionParts)

@@ -7,11 +7,11 @@ use Rattle.buck_apt.specs.Settings.{SettingsParts}
 use Rattle.buck_book_postings.specs.declared.posting.TheConstants.{MOST_POSTINGS}
 use Rattle.buck_book_journal.specs.reading.Journal.{JournalParts}
 use Rattle.buck_page_figures.specs.Journals.{postings_of}
-use Rattle.buckfleet_engine.specs.declared.fault.EngineFault.{EngineFault}
-use Rattle.buckfleet_engine.specs.run.Opening.{AnswersInputs}
-use Rattle.buckfleet_engine.specs.run.Reading.{Says, apt_with}
-use Rattle.buckfleet_engine.specs.run.Several.{AreLawful, HaveJournals, HaveSeveral, IsFirstUnlawful, IsSeveralFault, replay_fault}
-use Rattle.buckfleet_engine.specs.text.Written.{WritesText}
+use Rattle.buckfleet_engine_files.specs.declared.fault.EngineFault.{EngineFault}
+use Rattle.buckfleet_engine_files.specs.Opening.{AnswersInputs}
+use Rattle.buckfleet_engine_files.specs.Reading.{Says, apt_with}
+use Rattle.buckfleet_engine_files.specs.Several.{AreLawful, HaveJournals, HaveSeveral, IsFirstUnlawful, IsSeveralFault, replay_fault}
+use Rattle.buckfleet_engine_files.specs.Written.{WritesText}
 use Rattle.buckfleet_terms_files.specs.declared.fault.TermsFault.{TermsFault}
 use Rattle.buckfleet_terms_files.specs.declared.fault.TermsFault.TheVariants.{Run}
 use Rattle.buckfleet_terms_files.specs.Own.{HasShapeOf}

@@ -3,7 +3,7 @@ ghost use Rattle.std.specs.Prelude.{◌≡◌, ◌≤◌, IfOk, length, map};
 ghost use Rattle.buck_record.specs.Reading.{listed};
 ghost use Rattle.buck_book_postings.specs.declared.posting.TheConstants.{MOST_POSTINGS};
 ghost use Rattle.buck_page_figures.specs.Journals.{postings_of};
-ghost use Rattle.buckfleet_engine.specs.run.Several.{AreLawful};
+ghost use Rattle.buckfleet_engine_files.specs.Several.{AreLawful};
 ghost use Rattle.buckfleet_terms_files.specs.Own.{HasShapeOf};
 ghost use Rattle.buckfleet_terms_files.specs.Telling.{WritesTerms};
 ghost use Rattle.buckfleet_proceeds.specs.declared.appraisal.Appraisal.{Appraisal};
@@ -17,7 +17,7 @@ use crate::opened::Opened;
 use crate::replayed::check_lawful;
 use buck_apt::{Instruction, Settings};
 use buck_record::Memory;
-use buckfleet_engine::{Journals, Workers, read_several, write_text};
+use buckfleet_engine_files::{Journals, Workers, read_several, write_text};
 use buckfleet_terms_files::{TermsFault, read_own};
 use std::alloc::Global;
 use std::io;
@@ -65,7 +65,7 @@ fn answer_of<T: Workers, R: io::Read + Drop>(
 /// before the whole text is there.
 ///
 /// The instruction file is read first, then the journals, and then the owner's instruction; each is refused, if it must
-/// be, before the next is read, as by [`read_several`](buckfleet_engine::read_several) and
+/// be, before the next is read, as by [`read_several`](buckfleet_engine_files::read_several) and
 /// [`read_own`](buckfleet_terms_files::read_own). Then each journal is replayed, and the first that isn't lawful is the
 /// fault,
 /// `Replay` or `ReplayOf`. `Write` if the writer fails, which leaves a prefix of the text, and `Memory` if an

@@ -6,8 +6,8 @@ ghost use Rattle.buck_book_postings.specs.History.{IsLawful};
 ghost use Rattle.buck_book_postings.specs.declared.posting.TheConstants.{MOST_POSTINGS};
 ghost use Rattle.buck_book_journal.specs.declared.judging.fault.ReplayFault.{ReplayFault};
 ghost use Rattle.buck_book_journal.specs.judging.Replay.{IsFirstFault, history_of};
-ghost use Rattle.buckfleet_engine.specs.declared.fault.EngineFault.TheVariants.{ReplayOf};
-ghost use Rattle.buckfleet_engine.specs.text.Written.{WritesText};
+ghost use Rattle.buckfleet_engine_files.specs.declared.fault.EngineFault.TheVariants.{ReplayOf};
+ghost use Rattle.buckfleet_engine_files.specs.Written.{WritesText};
 ghost use Rattle.buckfleet_proceeds.specs.Serving.{AnswersCompare};
 
 use crate::compared::{Run, comparison_text};
@@ -18,7 +18,7 @@ use buck_dp::Planner;
 use buck_page_figures::{figures_of, grade_free_of};
 use buck_record::Memory;
 use buck_value::Sheet;
-use buckfleet_engine::{EngineFault, Workers, read_several, write_text};
+use buckfleet_engine_files::{EngineFault, Workers, read_several, write_text};
 use std::alloc::Global;
 use std::io;
 use std::slice::from_ref;
@@ -122,7 +122,7 @@ fn answer_of<T: Workers, R: io::Read>(
 /// Reads an instruction file and two journals, and writes their figures side by side: a line for each figure. Nothing
 /// is written before the whole text is there.
 ///
-/// The files are read, and refused, as by [`read_several`](buckfleet_engine::read_several). Then each journal is
+/// The files are read, and refused, as by [`read_several`](buckfleet_engine_files::read_several). Then each journal is
 /// replayed with numbers of its own in the place of the instruction's; the first that isn't lawful is `ReplayOf`.
 /// `Write` if the writer fails, which leaves a prefix of the text, and `Memory` if an allocation failed.
 #[tactic(auto, using(crate::proofs::Stopped::texts))]

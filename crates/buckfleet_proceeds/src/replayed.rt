@@ -3,11 +3,11 @@ ghost use Rattle.std.specs.Prelude.{◌≡◌, ◌⊎◌, ◌≢◌, ◌+◌, �
 ghost use Rattle.buck_book_postings.specs.declared.posting.TheConstants.{MOST_POSTINGS};
 ghost use Rattle.buck_book_journal.specs.declared.judging.fault.ReplayFault.{ReplayFault};
 ghost use Rattle.buck_page_figures.specs.Journals.{postings_of};
-ghost use Rattle.buckfleet_engine.specs.declared.fault.EngineFault.TheVariants.{Memory};
-ghost use Rattle.buckfleet_engine.specs.run.Several.{AreLawful, IsFirstUnlawful, replay_fault};
+ghost use Rattle.buckfleet_engine_files.specs.declared.fault.EngineFault.TheVariants.{Memory};
+ghost use Rattle.buckfleet_engine_files.specs.Several.{AreLawful, IsFirstUnlawful, replay_fault};
 
 use buck_book_journal::ReplayFault;
-use buckfleet_engine::{EngineFault, FirstUnlawful, Journals, Workers, replay_several};
+use buckfleet_engine_files::{EngineFault, FirstUnlawful, Journals, Workers, replay_several};
 use std::alloc::Global;
 
 /// The fault of the first of so many journals that isn't lawful: it has the journal's number, if there are several.

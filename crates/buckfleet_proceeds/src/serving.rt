@@ -6,7 +6,7 @@ use crate::appraised::run_appraise;
 use crate::comparing::run_compare;
 use crate::opened::Opened;
 use crate::task::{AppraiseTask, CompareTask};
-use buckfleet_engine::{EngineFault, Onlooker, Open, SeveralThreads, open_inputs};
+use buckfleet_engine_files::{EngineFault, Onlooker, Open, SeveralThreads, open_inputs};
 use buckfleet_terms_files::{TermsFault, open_last};
 use std::alloc::Global;
 use std::io;

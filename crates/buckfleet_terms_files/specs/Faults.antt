@@ -1,8 +1,8 @@
 -- What the program says of a fault of a file beside an instruction: its line on standard error and the exit status.
 use Rattle.std.specs.Prelude.{ℕ, List, [], ◌∷◌, codes}
 use Rattle.buck_apt.specs.Faults.{apt_numbers}
-use Rattle.buckfleet_engine.specs.Faults.{fault_line, numbered_line, status_of, status_or}
-use Rattle.buckfleet_engine.specs.declared.fault.EngineFault.TheVariants.{Memory as NoMemory}
+use Rattle.buckfleet_engine_files.specs.Faults.{fault_line, numbered_line, status_of, status_or}
+use Rattle.buckfleet_engine_files.specs.declared.fault.EngineFault.TheVariants.{Memory as NoMemory}
 use Rattle.buckfleet_terms_files.specs.declared.fault.TargetsFault.{TargetsFault}
 use Rattle.buckfleet_terms_files.specs.declared.fault.TargetsFault.TheVariants.{Count, Range, Sum, Head, Digits, Memory}
 use Rattle.buckfleet_terms_files.specs.declared.fault.OwnFault.{OwnFault}

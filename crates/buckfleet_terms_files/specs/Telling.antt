@@ -1,9 +1,9 @@
 -- How a whole run over files beside an instruction ends: what is reported of it.
 use Rattle.std.specs.Prelude.{ℕ, List, Option, Result, Ok, Err}
 use Rattle.std.specs.Io.KnownBytes.{Appends, Keeps}
-use Rattle.buckfleet_engine.specs.declared.fault.EngineFault.TheVariants.{Write}
-use Rattle.buckfleet_engine.specs.text.Written.{AppendsSome}
-use Rattle.buckfleet_engine.specs.run.Serving.{AppendsFirst}
+use Rattle.buckfleet_engine_files.specs.declared.fault.EngineFault.TheVariants.{Write}
+use Rattle.buckfleet_engine_files.specs.Written.{AppendsSome}
+use Rattle.buckfleet_engine_files.specs.Written.{AppendsFirst}
 use Rattle.buckfleet_terms_files.specs.declared.fault.TermsFault.{TermsFault}
 use Rattle.buckfleet_terms_files.specs.declared.fault.TermsFault.TheVariants.{Run}
 use Rattle.buckfleet_terms_files.specs.Faults.{terms_line, terms_status}

@@ -1,13 +1,13 @@
 //! Why files beside an instruction are refused.
 ghost use Rattle.std.specs.Prelude.{◌≡◌};
-ghost use Rattle.buckfleet_engine.specs.Faults.{status_or};
+ghost use Rattle.buckfleet_engine_files.specs.Faults.{status_or};
 ghost use Rattle.buckfleet_terms_files.specs.Faults.{no_memory, of_targets, own_numbers, targets_numbers, terms_status};
 ghost use Rattle.buckfleet_terms_files.specs.declared.fault.TargetsFault.TheVariants.{Memory};
 ghost use Rattle.buckfleet_terms_files.specs.declared.fault.TermsFault.TheVariants.{Run};
 
 use buck_apt::AptFault;
 use buck_record::{FaultNumbers, Memory, Numbered};
-use buckfleet_engine::EngineFault;
+use buckfleet_engine_files::EngineFault;
 use std::alloc::{AllocError, AllocFailed};
 use thiserror::Error;
 
@@ -178,12 +178,12 @@ fn status_or_memory<F: Numbered>(fault: &F) -> u8
 }
 
 /// The exit status of the program after a fault: 1 if a file beside an instruction is refused, and else as after any
-/// run; see [`status`](buckfleet_engine::status).
+/// run; see [`status`](buckfleet_engine_files::status).
 pub fn status(fault: &TermsFault) -> u8
     ensures { result ≡ terms_status fault.now }
 {
     match fault {
-        TermsFault::Run(fault) => buckfleet_engine::status(fault),
+        TermsFault::Run(fault) => buckfleet_engine_files::status(fault),
         TermsFault::Targets(fault) => status_or_memory(fault),
         TermsFault::Own(fault) => status_or_memory(fault),
     }

@@ -2,7 +2,7 @@
 ghost use Rattle.std.specs.Prelude.{◌≡◌, IfErr, IfOk, Ok, min};
 ghost use Rattle.std.specs.Option.{option_map};
 ghost use Rattle.buck_apt.specs.Apt.{apt_of};
-ghost use Rattle.buckfleet_engine.specs.run.Reading.{Says};
+ghost use Rattle.buckfleet_engine_files.specs.Reading.{Says};
 ghost use Rattle.buck_book_postings.specs.Targets.{AreTargets};
 ghost use Rattle.buckfleet_terms_files.specs.Own.{HasShapeOf};
 ghost use Rattle.buckfleet_terms_files.specs.Reading.{AnswersLast, AnswersMore, IsOwnFileFault, IsTargetsFileFault, SaysTargets};
@@ -11,7 +11,7 @@ use crate::fault::{OwnFault, TermsFault};
 use crate::own::shape_fault;
 use crate::wanted::targets_in;
 use buck_apt::Instruction;
-use buckfleet_engine::{EngineFault, Open, read_file, read_instruction};
+use buckfleet_engine_files::{EngineFault, Open, read_file, read_instruction};
 use std::alloc::Global;
 use std::io;
 

@@ -2,19 +2,19 @@
 ghost use Rattle.std.specs.Prelude.{◌≡◌, ◌∷◌, []};
 ghost use Rattle.std.specs.Fmt.{decimal};
 ghost use Rattle.buck_record.specs.writing.Written.{spelled};
-ghost use Rattle.buckfleet_engine.specs.Faults.{numbered_line};
-ghost use Rattle.buckfleet_engine.specs.text.Written.{IsWritten, TellsWritten};
+ghost use Rattle.buckfleet_engine_files.specs.Faults.{numbered_line};
+ghost use Rattle.buckfleet_engine_files.specs.Written.{IsWritten, TellsWritten};
 ghost use Rattle.buckfleet_terms_files.specs.Faults.{terms_line};
 ghost use Rattle.buckfleet_terms_files.specs.Telling.{TellsTerms, terms_status_after};
 
 use crate::fault::{TermsFault, status};
 use buck_record::Numbered;
-use buckfleet_engine::{EngineFault, write_fault, write_text};
+use buckfleet_engine_files::{EngineFault, write_fault, write_text};
 use itoa::Buffer;
 use std::io;
 
 /// Writes a number in decimal, after a space.
-#[tactic(auto, using(buckfleet_engine::proofs::WrittenLemmas::steps))]
+#[tactic(auto, using(buckfleet_engine_files::proofs::WrittenLemmas::steps))]
 fn write_number<W: io::Write>(writer: &mut W, number: u64) -> Result<(), EngineFault>
     ensures { IsWritten (W.contents writer.old) (W.contents writer.new) (32 ∷ decimal number) result }
 {
@@ -35,7 +35,7 @@ fn write_numbers<W: io::Write>(writer: &mut W, numbers: &[u64]) -> Result<(), En
 
 /// Writes the line of a fault that has a number: what kind it is of, and the fault's number and fields. Memory that ran
 /// out has a line of its own.
-#[tactic(auto, using(buckfleet_engine::proofs::WrittenLemmas::unnumbered))]
+#[tactic(auto, using(buckfleet_engine_files::proofs::WrittenLemmas::unnumbered))]
 fn write_line<W: io::Write, F: Numbered>(
     writer: &mut W,
     kind: &[u8],
@@ -79,7 +79,7 @@ pub fn write_terms_fault<W: io::Write>(writer: &mut W, fault: &TermsFault) -> bo
 }
 
 /// Says how a run ended: nothing if it went well, and else the line of the fault. The answer is the exit status.
-#[tactic(auto, using(buckfleet_engine::proofs::WrittenLemmas::first_told))]
+#[tactic(auto, using(buckfleet_engine_files::proofs::WrittenLemmas::first_told))]
 pub fn conclude_terms<E: io::Write>(errors: &mut E, outcome: &Result<(), TermsFault>) -> u8
     ensures status { result ≡ terms_status_after outcome.now }
     ensures told { TellsTerms (E.contents errors.old) (E.contents errors.new) outcome.now }

@@ -20,7 +20,7 @@ use Rattle.buck_book_postings.specs.History.{HistoryParts, IsLawful}
 use Rattle.buck_book_postings.specs.Pricing.{AreSheetsBy, Calls}
 use Rattle.buck_page_figures.specs.Figures.{base_sheet}
 use Rattle.buck_fleet_round_robin.specs.Turn.{HasCutInTurn}
-use Rattle.buckfleet_engine.proofs.Ruled.{follows_rule}
+use Rattle.buckfleet_engine_files.proofs.Ruled.{follows_rule}
 use Rattle.buckfleet_trial_sweep.specs.Runs.{HasCut}
 use Rattle.buckfleet_trial_sweep.specs.Table.{IsLeast}
 use Rattle.buckfleet_trial_sweep.proofs.Lesser.{least_more}

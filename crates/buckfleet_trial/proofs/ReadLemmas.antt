@@ -11,16 +11,16 @@ use Rattle.buck_apt.specs.Wanted.{MayBeWanted}
 use Rattle.buck_book_postings.specs.Targets.{AreTargets}
 use Rattle.buck_stem.specs.declared.stem.Stem.{Stem}
 use Rattle.buck_fleet_round_robin.specs.Turn.{stems_in_all}
-use Rattle.buckfleet_engine.specs.declared.fault.EngineFault.{EngineFault}
-use Rattle.buckfleet_engine.specs.declared.fault.EngineFault.TheVariants.{Full, Seats}
+use Rattle.buckfleet_engine_files.specs.declared.fault.EngineFault.{EngineFault}
+use Rattle.buckfleet_engine_files.specs.declared.fault.EngineFault.TheVariants.{Full, Seats}
 use Rattle.buckfleet_engine.specs.declared.fleet.lists.Input.{Input}
 use Rattle.buckfleet_engine.specs.fleet.Running.{AreListsOf, AreNoSeats, HaveTooMany, IsFleetFault}
-use Rattle.buckfleet_engine.specs.run.Reading.{Says}
+use Rattle.buckfleet_engine_files.specs.Reading.{Says}
 use Rattle.buckfleet_engine.proofs.Lists.{accepted, too_many}
 use Rattle.buckfleet_terms_files.specs.declared.fault.TermsFault.{TermsFault}
 use Rattle.buckfleet_terms_files.specs.declared.fault.TermsFault.TheVariants.{Run}
 use Rattle.buckfleet_terms_files.specs.Reading.{AnswersMore, IsTargetsFileFault}
-use Rattle.buckfleet_engine.specs.run.Opening.{AnswersInputs}
+use Rattle.buckfleet_engine_files.specs.Opening.{AnswersInputs}
 use Rattle.buckfleet_trial.specs.declared.reading.Opened.{Opened}
 use Rattle.buckfleet_trial.specs.Inputs.{AnswersFiles, IsInputFault, SaysInput, held_with}
 use Rattle.buckfleet_trial.specs.inner.Running.{in_terms}

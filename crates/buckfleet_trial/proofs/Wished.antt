@@ -19,7 +19,7 @@ use Rattle.buck_book_postings.specs.Degree.{part_of}
 use Rattle.buck_book_postings.specs.History.{HistoryParts}
 use Rattle.buck_book_postings.specs.Posting.{opening_targets}
 use Rattle.buck_page_figures.specs.Figures.{at_base_in}
-use Rattle.buckfleet_engine.specs.declared.fault.EngineFault.{EngineFault}
+use Rattle.buckfleet_engine_files.specs.declared.fault.EngineFault.{EngineFault}
 use Rattle.buckfleet_trial_sweep.specs.Runs.{HasCut}
 use Rattle.buckfleet_trial_sweep.specs.Table.{IsLeast}
 use Rattle.buckfleet_trial.specs.declared.asking.Asking.{Asking}

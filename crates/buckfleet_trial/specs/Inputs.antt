@@ -10,11 +10,11 @@ use Rattle.buck_apt.specs.Wanted.{with_targets}
 use Rattle.buck_stem.specs.declared.stem.Stem.{Stem}
 use Rattle.buck_book_postings.specs.declared.posting.TheConstants.{MOST_POSTINGS}
 use Rattle.buck_fleet_round_robin.specs.Turn.{stems_in_all}
-use Rattle.buckfleet_engine.specs.declared.fault.EngineFault.{EngineFault}
-use Rattle.buckfleet_engine.specs.declared.fault.EngineFault.TheVariants.{Full, Seats}
+use Rattle.buckfleet_engine_files.specs.declared.fault.EngineFault.{EngineFault}
+use Rattle.buckfleet_engine_files.specs.declared.fault.EngineFault.TheVariants.{Full, Seats}
 use Rattle.buckfleet_engine.specs.fleet.Running.{AreListsOf, AreNoSeats, HaveTooMany, IsFleetFault}
-use Rattle.buckfleet_engine.specs.run.Opening.{AnswersInputs}
-use Rattle.buckfleet_engine.specs.run.Reading.{Says}
+use Rattle.buckfleet_engine_files.specs.Opening.{AnswersInputs}
+use Rattle.buckfleet_engine_files.specs.Reading.{Says}
 use Rattle.buckfleet_terms_files.specs.declared.fault.TermsFault.{TermsFault}
 use Rattle.buckfleet_terms_files.specs.declared.fault.TermsFault.TheVariants.{Run}
 use Rattle.buckfleet_terms_files.specs.Reading.{AnswersMore, IsTargetsFileFault, SaysTargets}

@@ -15,8 +15,8 @@ use Rattle.buck_book_postings.specs.declared.posting.TheConstants.{MOST_POSTINGS
 use Rattle.buck_book_postings.specs.History.{HistoryParts}
 use Rattle.buck_page_cells.specs.Cells.{number_cell}
 use Rattle.buckfleet_trial_draws.specs.declared.orders.Draws.{Draws}
-use Rattle.buckfleet_engine.specs.declared.fault.EngineFault.{EngineFault}
-use Rattle.buckfleet_engine.specs.run.Reading.{Says}
+use Rattle.buckfleet_engine_files.specs.declared.fault.EngineFault.{EngineFault}
+use Rattle.buckfleet_engine_files.specs.Reading.{Says}
 use Rattle.buckfleet_proceeds.specs.declared.appraisal.Appraisal.{Appraisal}
 use Rattle.buckfleet_proceeds.specs.Appraisal.{IsAppraisal}
 use Rattle.buckfleet_trial_sweep.specs.declared.combination.Combination.{Combination}

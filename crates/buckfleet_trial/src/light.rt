@@ -20,7 +20,7 @@ use buck_record::Memory;
 use buck_rule::{NamedRule, Rule, Standing};
 use buck_stem::Stem;
 use buck_value::Sheet;
-use buckfleet_engine::EngineFault;
+use buckfleet_engine_files::EngineFault;
 use std::alloc::Global;
 use std::sync::Arc;
 

@@ -1,5 +1,5 @@
 //! Who looks on while runs are made.
-use buckfleet_engine::{Nobody, Onlooker};
+use buckfleet_engine_files::{Nobody, Onlooker};
 
 /// Observes runs while they go on, called by the threads that make them. Nothing that a table has depends on it.
 pub trait RunOnlooker: Onlooker {

@@ -1,10 +1,10 @@
 //! Work that is done in parts, each in a thread of its own.
 ghost use Rattle.std.specs.Prelude.{◌≡◌, ◌⊎◌, ◌<◌, IfErr, IfOk, Err};
 ghost use Rattle.std.specs.List.{Contains};
-ghost use Rattle.buckfleet_engine.specs.declared.fault.EngineFault.TheVariants.{Memory};
+ghost use Rattle.buckfleet_engine_files.specs.declared.fault.EngineFault.TheVariants.{Memory};
 ghost use Rattle.buckfleet_trial.specs.inner.Parts.{AreJoined};
 
-use buckfleet_engine::EngineFault;
+use buckfleet_engine_files::EngineFault;
 use std::alloc::Global;
 
 /// How many neighbours of so many a thread works at, of which there are at most so many.

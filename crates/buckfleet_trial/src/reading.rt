@@ -2,7 +2,7 @@
 ghost use Rattle.std.specs.Prelude.{◌≡◌, ◌<◌, ◌≤◌, IfErr, IfOk, None, OnOk, Some, length, map};
 ghost use Rattle.std.specs.Option.{option_map};
 ghost use Rattle.std.specs.Result.{IsErrAnd};
-ghost use Rattle.buckfleet_engine.specs.declared.fault.EngineFault.TheVariants.{Full, Seats};
+ghost use Rattle.buckfleet_engine_files.specs.declared.fault.EngineFault.TheVariants.{Full, Seats};
 ghost use Rattle.buck_fleet_round_robin.specs.Turn.{stems_in_all};
 ghost use Rattle.buck_book_postings.specs.declared.posting.TheConstants.{MOST_POSTINGS};
 ghost use Rattle.buckfleet_engine.specs.fleet.Running.{AreNoSeats, HaveTooMany, IsFleetFault};
@@ -12,7 +12,8 @@ ghost use Rattle.buckfleet_trial.specs.inner.Running.{in_terms};
 
 use buck_book_postings::MOST_POSTINGS;
 use buck_stem::Stem;
-use buckfleet_engine::{EngineFault, Input, OneThread, Onlooker, Open, open_inputs, read_input};
+use buckfleet_engine::{Input, read_input};
+use buckfleet_engine_files::{EngineFault, OneThread, Onlooker, Open, open_inputs};
 use buckfleet_terms_files::{TermsFault, open_more, read_wanted};
 use std::alloc::Global;
 use std::io;

@@ -6,7 +6,7 @@ use crate::reading::open_files;
 use crate::task::{TrialTask, WishesTask};
 use crate::trial::run_trial_in_parts;
 use crate::wishes::run_wishes_in_parts;
-use buckfleet_engine::Open;
+use buckfleet_engine_files::Open;
 use buckfleet_terms_files::TermsFault;
 use std::alloc::Global;
 use std::io;

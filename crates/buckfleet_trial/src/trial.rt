@@ -5,7 +5,7 @@ ghost use Rattle.buck_fleet_round_robin.specs.Turn.{stems_in_all};
 ghost use Rattle.buckfleet_trial_sweep.specs.Runs.{IsStop};
 ghost use Rattle.buckfleet_trial.specs.Inputs.{held_with};
 ghost use Rattle.buckfleet_trial.specs.Trial.{IsBestFor, IsDrawn, IsTrialOver, IsTrialRun, starts_of};
-ghost use Rattle.buckfleet_engine.specs.text.Written.{WritesText};
+ghost use Rattle.buckfleet_engine_files.specs.Written.{WritesText};
 ghost use Rattle.buckfleet_trial.specs.inner.Running.{AnswersOver};
 ghost use Rattle.buckfleet_trial.specs.inner.Lines.{AreDrawnFor, AreLinesFor, AreRun, IsDrawnPart, IsLinesPart, all_draws, draws_of, runs_of};
 
@@ -16,7 +16,8 @@ use crate::reading::{Opened, of_run, read_files};
 use crate::table::{put_first, put_line};
 use crate::task::TrialTask;
 use buck_record::Memory;
-use buckfleet_engine::{EngineFault, Input, number_of_threads, write_text};
+use buckfleet_engine::Input;
+use buckfleet_engine_files::{EngineFault, number_of_threads, write_text};
 use buckfleet_terms_files::TermsFault;
 use buckfleet_trial_draws::{Draws, order_from, starts_of};
 use buckfleet_trial_sweep::{Combination, run_line};

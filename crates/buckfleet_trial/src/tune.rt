@@ -3,7 +3,7 @@ ghost use Rattle.std.specs.Prelude.{◌≡◌, ◌≤◌, All, IfErr, IfOk, leng
 ghost use Rattle.buck_value.specs.Sheet.{base_prices};
 ghost use Rattle.buck_book_postings.specs.History.{prices_at, version_of};
 ghost use Rattle.buck_book_postings.specs.Posting.{planned_version};
-ghost use Rattle.buckfleet_engine.specs.text.Written.{WritesText};
+ghost use Rattle.buckfleet_engine_files.specs.Written.{WritesText};
 ghost use Rattle.buckfleet_trial_sweep.specs.Runs.{IsStop};
 ghost use Rattle.buckfleet_terms_files.specs.Telling.{WritesTerms};
 ghost use Rattle.buckfleet_trial.specs.Inputs.{held_with};
@@ -21,7 +21,8 @@ use buck_page_text::half_up;
 use buck_record::Memory;
 use buck_stem::Stem;
 use buck_value::Sheet;
-use buckfleet_engine::{EngineFault, Input, Onlooker, Open, write_text};
+use buckfleet_engine::Input;
+use buckfleet_engine_files::{EngineFault, Onlooker, Open, write_text};
 use buckfleet_terms_files::TermsFault;
 use std::alloc::Global;
 use std::io;

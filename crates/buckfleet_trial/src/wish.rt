@@ -17,7 +17,7 @@ use buck_page_cells::{Change, put_change, put_number, put_numbers, put_spread, s
 use buck_page_figures::{number_at, part, sum_of};
 use buck_page_text::put_quoted;
 use buck_record::Memory;
-use buckfleet_engine::EngineFault;
+use buckfleet_engine_files::EngineFault;
 use itoa::Buffer;
 use std::alloc::Global;
 use std::sync::Arc;

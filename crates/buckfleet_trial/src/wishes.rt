@@ -10,7 +10,7 @@ ghost use Rattle.buckfleet_trial.specs.Inputs.{held_with};
 ghost use Rattle.buckfleet_trial.specs.Trial.{starts_of};
 ghost use Rattle.buckfleet_trial.specs.Wishes.{AnswersWishes, AreUnsteered, AreWishes, IsWishAt};
 ghost use Rattle.buckfleet_trial.specs.WishLine.{empty_end, gains_head, whole_line, wishes_head};
-ghost use Rattle.buckfleet_engine.specs.text.Written.{WritesText};
+ghost use Rattle.buckfleet_engine_files.specs.Written.{WritesText};
 ghost use Rattle.buckfleet_trial.specs.inner.Running.{AnswersOver};
 ghost use Rattle.buckfleet_trial.specs.inner.Asking.{AreAsked, AreBelow, AreDrawnBy, AreRunsBy, AreTold, IsAsking, IsDrawnPartBy, IsToldPart};
 
@@ -27,7 +27,8 @@ use buck_apt::Instruction;
 use buck_record::Memory;
 use buck_rule::NamedRule;
 use buck_stem::Stem;
-use buckfleet_engine::{EngineFault, Input, number_of_threads, write_text};
+use buckfleet_engine::Input;
+use buckfleet_engine_files::{EngineFault, number_of_threads, write_text};
 use buckfleet_terms_files::TermsFault;
 use std::alloc::Global;
 use std::cmp::Ordering;

@@ -8,14 +8,15 @@ use Rattle.std.proofs.KnownBytes.{Keeps-refl}
 use Rattle.buck_apt.specs.Apt.{apt_of}
 use Rattle.buck_book_postings.specs.Replies.{stems_at}
 use Rattle.buck_fleet_round_robin.specs.Turn.{StemList}
-use Rattle.buckfleet_engine.specs.declared.fault.EngineFault.{EngineFault}
-use Rattle.buckfleet_engine.specs.declared.fault.EngineFault.TheVariants.{Full, Seats, Write}
-use Rattle.buckfleet_engine.specs.run.Reading.{Says}
+use Rattle.buckfleet_engine_files.specs.declared.fault.EngineFault.{EngineFault}
+use Rattle.buckfleet_engine_files.specs.declared.fault.EngineFault.TheVariants.{Full, Seats, Write}
+use Rattle.buckfleet_engine_files.specs.Reading.{Says}
 use Rattle.buckfleet_engine.specs.fleet.Running.{AreListsOf, AreNoSeats, IsFleetFault}
-use Rattle.buckfleet_engine.specs.text.Written.{AppendsSome, WritesText}
+use Rattle.buckfleet_engine_files.specs.Written.{AppendsSome, WritesText}
 use Rattle.buckfleet_engine.proofs.Lists.{accepted, too_many}
-use Rattle.buckfleet_engine.proofs.Numbers.{says_with}
-use Rattle.buckfleet_engine.proofs.Runs.{fleet_fault, no_answer}
+use Rattle.buckfleet_engine_files.proofs.Numbers.{says_with}
+use Rattle.buckfleet_engine.proofs.Runs.{fleet_fault}
+use Rattle.buckfleet_engine_files.proofs.Runs.{no_answer}
 use Rattle.buckfleet_trial_sweep.proofs.Tables.{lines_mapped}
 
 -- the line of a run over the lists that files have is a line over the files

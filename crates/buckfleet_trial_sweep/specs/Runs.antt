@@ -6,10 +6,10 @@ use Rattle.buck_book_postings.specs.History.{HistoryParts, IsLawful}
 use Rattle.buck_book_postings.specs.declared.posting.TheConstants.{MOST_POSTINGS}
 use Rattle.buck_fleet_round_robin.specs.Turn.{HasCutInTurn, StemList, stems_in_all}
 use Rattle.buck_rule.specs.declared.named.NamedRule.{NamedRule}
-use Rattle.buckfleet_engine.specs.declared.fault.EngineFault.{EngineFault}
-use Rattle.buckfleet_engine.specs.declared.fault.EngineFault.TheVariants.{Full}
+use Rattle.buckfleet_engine_files.specs.declared.fault.EngineFault.{EngineFault}
+use Rattle.buckfleet_engine_files.specs.declared.fault.EngineFault.TheVariants.{Full}
 use Rattle.buckfleet_engine.specs.fleet.Running.{AreFirsts, IsCuttingFault}
-use Rattle.buckfleet_engine.specs.tie.Ties.{FollowsRule}
+use Rattle.buckfleet_engine_files.specs.Ruled.{FollowsRule}
 use Rattle.buckfleet_trial_sweep.specs.declared.combination.Combination.{Combination}
 use Rattle.buckfleet_trial_sweep.specs.Table.{IsLine}
 

@@ -1,8 +1,8 @@
 -- How a whole run of a table ends: what is opened, and what is written.
 use Rattle.std.specs.Prelude.{◌≡◌, ℕ, List, map, Option, Result, Ok, Err}
 use Rattle.std.specs.Io.KnownBytes.{Keeps}
-use Rattle.buckfleet_engine.specs.declared.fault.EngineFault.{EngineFault}
-use Rattle.buckfleet_engine.specs.run.Opening.{AnswersInputs}
+use Rattle.buckfleet_engine_files.specs.declared.fault.EngineFault.{EngineFault}
+use Rattle.buckfleet_engine_files.specs.Opening.{AnswersInputs}
 use Rattle.buckfleet_trial_sweep.specs.declared.combination.Combination.{Combination}
 use Rattle.buckfleet_trial_sweep.specs.declared.serving.SweepTask.{SweepTask}
 use Rattle.buckfleet_trial_sweep.specs.Sweep.{IsSweepRun}

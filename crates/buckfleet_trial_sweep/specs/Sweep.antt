@@ -4,12 +4,12 @@ use Rattle.buck_apt.specs.Apt.{apt_of}
 use Rattle.buck_apt.specs.Instruction.{InstructionParts}
 use Rattle.buck_book_postings.specs.History.{HistoryParts}
 use Rattle.buck_fleet_round_robin.specs.Turn.{AreInTurn}
-use Rattle.buckfleet_engine.specs.declared.fault.EngineFault.{EngineFault}
-use Rattle.buckfleet_engine.specs.declared.fault.EngineFault.TheVariants.{Full, Seats}
-use Rattle.buckfleet_engine.specs.run.Reading.{Says, apt_with}
+use Rattle.buckfleet_engine_files.specs.declared.fault.EngineFault.{EngineFault}
+use Rattle.buckfleet_engine_files.specs.declared.fault.EngineFault.TheVariants.{Full, Seats}
+use Rattle.buckfleet_engine_files.specs.Reading.{Says, apt_with}
 use Rattle.buckfleet_engine.specs.fleet.Running.{AreNoSeats, HaveTooMany, IsFleetFault, IsHarvest}
-use Rattle.buckfleet_engine.specs.tie.Ties.{FollowsRule}
-use Rattle.buckfleet_engine.specs.text.Written.{WritesText}
+use Rattle.buckfleet_engine_files.specs.Ruled.{FollowsRule}
+use Rattle.buckfleet_engine_files.specs.Written.{WritesText}
 use Rattle.buckfleet_trial_sweep.specs.declared.combination.Combination.{Combination}
 use Rattle.buckfleet_trial_sweep.specs.Table.{IsLine, head_line}
 

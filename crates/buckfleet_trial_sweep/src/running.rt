@@ -1,8 +1,8 @@
 //! `run_sweep`: from the bytes of an instruction file and stem files to a table.
 ghost use Rattle.std.specs.Prelude.{◌≡◌, ◌≢◌, map, drop, IfErr};
-ghost use Rattle.buckfleet_engine.specs.declared.fault.EngineFault.TheVariants.{Seats, Write};
-ghost use Rattle.buckfleet_engine.specs.run.Reading.{IfStopped};
-ghost use Rattle.buckfleet_engine.specs.text.Written.{WritesText};
+ghost use Rattle.buckfleet_engine_files.specs.declared.fault.EngineFault.TheVariants.{Seats, Write};
+ghost use Rattle.buckfleet_engine_files.specs.Reading.{IfStopped};
+ghost use Rattle.buckfleet_engine_files.specs.Written.{WritesText};
 ghost use Rattle.buckfleet_engine.specs.fleet.Running.{IsCuttingFault};
 ghost use Rattle.buckfleet_trial_sweep.specs.Sweep.{IsSweepRun};
 ghost use Rattle.buckfleet_trial_sweep.specs.inner.Lines.{AnswersTable, IsPart};
@@ -11,9 +11,9 @@ use crate::combination::Combination;
 use crate::cutting::{lines_in_parts, lines_of};
 use crate::serving::SweepTask;
 use crate::table::put_head;
-use buckfleet_engine::{
-    EngineFault, Input, OneThread, Onlooker, SeveralThreads, number_of_threads, read_input,
-    write_text,
+use buckfleet_engine::{Input, read_input};
+use buckfleet_engine_files::{
+    EngineFault, OneThread, Onlooker, SeveralThreads, number_of_threads, write_text,
 };
 use std::alloc::Global;
 use std::io;

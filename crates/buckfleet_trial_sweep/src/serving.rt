@@ -4,7 +4,7 @@ ghost use Rattle.buckfleet_trial_sweep.specs.Serving.{RunsSweep};
 
 use crate::combination::Combination;
 use crate::running::run_sweep_in_parts;
-use buckfleet_engine::{EngineFault, Onlooker, Open, open_inputs};
+use buckfleet_engine_files::{EngineFault, Onlooker, Open, open_inputs};
 use std::alloc::Global;
 use std::io;
 use std::thread::Threads;

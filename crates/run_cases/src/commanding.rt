@@ -4,7 +4,7 @@ ghost use Rattle.std.specs.Prelude.{⊤};
 use crate::case::{Inputs, Named};
 use crate::running::Outcome;
 use buckfleet_command::{Known, Place, Screen, Streams, Trouble, run};
-use buckfleet_engine::{Make, Open};
+use buckfleet_engine_files::{Make, Open};
 use std::alloc::Global;
 use std::cell::Cell;
 use std::io;

@@ -4,9 +4,8 @@ ghost use Rattle.buck_rule.specs.Stored.{AllAnswer};
 use crate::case::{Case, Engine, Inputs};
 use crate::commanding::outcome_of_words;
 use buck_rule::{NamedRule, Rule, Standing};
-use buckfleet_engine::{
-    EngineFault, run_bare, run_buck, run_check, run_fleet_files, status, write_fault,
-};
+use buckfleet_engine::{run_bare, run_buck, run_check, run_fleet_files};
+use buckfleet_engine_files::{EngineFault, status, write_fault};
 use std::alloc::Global;
 use std::sync::Wait;
 use std::thread::Threads;

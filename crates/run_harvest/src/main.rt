@@ -6,9 +6,8 @@
 
 use buck_record::{Memory, put_number};
 use buck_rule::{Rule, Standing, step};
-use buckfleet_engine::{
-    EngineFault, run_bare, run_buck, run_check, run_fleet_files, run_in_turn, write_fault,
-};
+use buckfleet_engine::{run_bare, run_buck, run_check, run_fleet_files, run_in_turn};
+use buckfleet_engine_files::{EngineFault, write_fault};
 use std::alloc::Global;
 use std::process::ExitCode;
 use std::sync::Wait;

@@ -4,10 +4,9 @@
 #![tactic(auto)]
 
 use buck_rule::NamedRule;
-use buckfleet_engine::{
-    BuckTask, CheckTask, CrossCheck, Desk, Disk, FleetTask, Nobody, Order, Settings, conclude,
-    serve_buck, serve_check, serve_fleet,
-};
+use buckfleet_engine::{BuckTask, FleetTask, Order, Settings, conclude, serve_buck, serve_fleet};
+use buckfleet_engine_cross_check::{CheckTask, CrossCheck, serve_check};
+use buckfleet_engine_files::{Desk, Disk, Nobody};
 use std::alloc::{AllocError, Global};
 use std::io;
 use std::process::ExitCode;

@@ -3,9 +3,9 @@
 //! made by another program, in another language, and looked at by a person.
 #![tactic(auto)]
 
-use buckfleet_engine::{
-    Desk, Disk, Nobody, Settings, Shown, Table, ViewTask, conclude, serve_view,
-};
+use buckfleet_engine::{Settings, conclude};
+use buckfleet_engine_files::{Desk, Disk, Nobody};
+use buckfleet_engine_page::{Shown, Table, ViewTask, serve_view};
 use std::alloc::{AllocError, Global};
 use std::io::Write;
 use std::process::ExitCode;

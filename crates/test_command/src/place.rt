@@ -2,7 +2,7 @@
 ghost use Rattle.std.specs.Prelude.{⊤};
 
 use buckfleet_command::{Known, Place, Screen, Streams, Trouble, run};
-use buckfleet_engine::{Make, Open};
+use buckfleet_engine_files::{Make, Open};
 use std::alloc::Global;
 use std::cell::Cell;
 use std::io;

@@ -4,7 +4,8 @@ use buck_apt::AptFault;
 use buck_book_journal::{JournalFault, ReplayFault};
 use buck_fleet::CloseFault;
 use buck_stem::StmFault;
-use buckfleet_engine::{CheckFault, EngineFault, TextFault, status, write_fault};
+use buckfleet_engine_files::{CheckFault, EngineFault, status, write_fault};
+use buckfleet_engine_text::TextFault;
 use std::alloc::{AllocError, Global};
 use std::test::Fail;
 

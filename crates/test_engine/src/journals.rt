@@ -5,10 +5,10 @@ ghost use Rattle.std.specs.Prelude.{⊤};
 use crate::parts::ROOM;
 use crate::work::apt_and_stm;
 use buck_book_journal::ReplayFault;
-use buckfleet_engine::{
-    CrossCheck, EngineFault, Files, Nobody, Open, Settings, SeveralThreads, Shown, Table, ViewTask,
-    run_check, run_check_with, run_table, run_view, serve_view,
-};
+use buckfleet_engine::{Settings, run_check};
+use buckfleet_engine_cross_check::{CrossCheck, run_check_with};
+use buckfleet_engine_files::{EngineFault, Nobody, Open, SeveralThreads};
+use buckfleet_engine_page::{Files, Shown, Table, ViewTask, run_table, run_view, serve_view};
 use std::alloc::Global;
 use std::test::Fail;
 use std::thread::Threads;

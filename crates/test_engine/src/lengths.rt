@@ -1,7 +1,8 @@
 //! Files at the limit of length, and an input without end.
 use crate::streams::Blanks;
 use buck_apt::AptFault;
-use buckfleet_engine::{EngineFault, run_bare, run_buck};
+use buckfleet_engine::{run_bare, run_buck};
+use buckfleet_engine_files::EngineFault;
 use std::alloc::Global;
 
 /// The most bytes that a file may have.

@@ -1,7 +1,7 @@
 //! Refused memory: an engine then ends as `Memory` with nothing written, and the next run as with ample memory. Run with
 //! each allocation failing in turn.
 use crate::work::Engine;
-use buckfleet_engine::EngineFault;
+use buckfleet_engine_files::EngineFault;
 use std::alloc::Global;
 use std::sync::Wait;
 use std::test::Fail;

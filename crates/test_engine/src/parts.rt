@@ -1,6 +1,7 @@
 //! Bucking in parts: in whatever number of threads stems are cut, what is written is what one thread writes.
 use crate::work::apt_and_stm;
-use buckfleet_engine::{EngineFault, Nobody, SeveralThreads, run_buck, run_buck_in_parts};
+use buckfleet_engine::{run_buck, run_buck_in_parts};
+use buckfleet_engine_files::{EngineFault, Nobody, SeveralThreads};
 use std::alloc::Global;
 use std::test::Fail;
 use std::thread::Threads;

@@ -4,9 +4,10 @@ ghost use Rattle.std.specs.Prelude.{◌≤◌};
 use crate::streams::{Sink, Source};
 use buck_rule::{NamedRule, Rule, Standing, step};
 use buckfleet_engine::{
-    CrossCheck, EngineFault, Nobody, OneThread, Settings, SeveralThreads, run_bare, run_buck,
-    run_buck_in_parts, run_check, run_check_with, run_fleet_files, run_in_turn,
+    Settings, run_bare, run_buck, run_buck_in_parts, run_check, run_fleet_files, run_in_turn,
 };
+use buckfleet_engine_cross_check::{CrossCheck, run_check_with};
+use buckfleet_engine_files::{EngineFault, Nobody, OneThread, SeveralThreads};
 use std::alloc::Global;
 use std::sync::Wait;
 use std::thread::Threads;

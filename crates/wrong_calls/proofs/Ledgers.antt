@@ -7,11 +7,11 @@ use Rattle.buck_apt.specs.Apt.{apt_of}
 use Rattle.buck_apt.specs.Instruction.{InstructionParts}
 use Rattle.buck_apt.specs.Settings.{SettingsParts, with_settings}
 use Rattle.buck_rule.specs.declared.named.NamedRule.{NamedRule}
-use Rattle.buckfleet_engine.specs.declared.fault.EngineFault.{EngineFault}
-use Rattle.buckfleet_engine.specs.declared.tie.running.CrossCheck.{CrossCheck}
-use Rattle.buckfleet_engine.specs.Faults.{memory_line, status_of, status_or}
-use Rattle.buckfleet_engine.specs.run.Reading.{apt_with}
-use Rattle.buckfleet_engine.specs.tie.Answers.{AnswersCheckWith}
+use Rattle.buckfleet_engine_files.specs.declared.fault.EngineFault.{EngineFault}
+use Rattle.buckfleet_engine_cross_check.specs.declared.running.CrossCheck.{CrossCheck}
+use Rattle.buckfleet_engine_files.specs.Faults.{memory_line, status_of, status_or}
+use Rattle.buckfleet_engine_files.specs.Reading.{apt_with}
+use Rattle.buckfleet_engine_cross_check.specs.Answers.{AnswersCheckWith}
 use Rattle.buckfleet_terms_files.specs.declared.fault.TermsFault.{TermsFault}
 use Rattle.buckfleet_terms_files.specs.declared.fault.TermsFault.TheVariants.{Run as OfRun, Targets, Own}
 use Rattle.buckfleet_terms_files.specs.Faults.{terms_status}

@@ -6,8 +6,8 @@ use Rattle.buck_apt.specs.Faults.{apt_numbers}
 use Rattle.buck_stem.specs.file.Faults.{stm_numbers}
 use Rattle.buck_book_journal.specs.Faults.{journal_numbers, replay_numbers}
 use Rattle.buck_fleet.specs.Faults.{close_numbers}
-use Rattle.buckfleet_engine.specs.declared.fault.EngineFault.TheVariants.{Read, Write, Apt, Stm, Journal, JournalOf, Replay, ReplayOf, Check, Seats, Full, Memory, Close}
-use Rattle.buckfleet_engine.specs.Faults.{memory_line, numbered_line, status_or}
+use Rattle.buckfleet_engine_files.specs.declared.fault.EngineFault.TheVariants.{Read, Write, Apt, Stm, Journal, JournalOf, Replay, ReplayOf, Check, Seats, Full, Memory, Close}
+use Rattle.buckfleet_engine_files.specs.Faults.{memory_line, numbered_line, status_or}
 use Rattle.buckfleet_terms_files.specs.declared.fault.TermsFault.{TermsFault}
 use Rattle.buckfleet_terms_files.specs.declared.fault.TermsFault.TheVariants.{Run, Targets, Own}
 use Rattle.buckfleet_terms_files.specs.Faults.{own_numbers, targets_numbers, terms_line, terms_status}

@@ -5,11 +5,11 @@ use Rattle.buck_apt.specs.Apt.{apt_of}
 use Rattle.buck_apt.specs.Instruction.{InstructionParts}
 use Rattle.buck_stem.specs.Stem.{StemParts}
 use Rattle.buck_stem.specs.file.Stm.{stm_of}
-use Rattle.buckfleet_engine.specs.declared.fault.EngineFault.{EngineFault}
-use Rattle.buckfleet_engine.specs.declared.fault.EngineFault.TheVariants.{Apt, Stm}
-use Rattle.buckfleet_engine.specs.Faults.{status_of}
-use Rattle.buckfleet_engine.specs.run.Reading.{IsFileFault}
-use Rattle.buckfleet_engine.proofs.Statuses.{never_0}
+use Rattle.buckfleet_engine_files.specs.declared.fault.EngineFault.{EngineFault}
+use Rattle.buckfleet_engine_files.specs.declared.fault.EngineFault.TheVariants.{Apt, Stm}
+use Rattle.buckfleet_engine_files.specs.Faults.{status_of}
+use Rattle.buckfleet_engine_files.specs.Reading.{IsFileFault}
+use Rattle.buckfleet_engine_files.proofs.Statuses.{never_0}
 use Rattle.buck_c_calls.specs.Room.{IsPut}
 use Rattle.buck_c_calls.specs.Files.{IsBucked}
 use Rattle.wrong_calls.proofs.Fits.{never_of}

@@ -2,7 +2,7 @@
 use Rattle.std.proofs.Common.{◌≡◌, ◌≢◌, ℕ, ◌+◌, List, ◌++◌, Some, take, inl, inr, sym, ap, subst, ◌∙◌, arith}
 use Rattle.buck_rule.specs.declared.named.NamedRule.{NamedRule}
 use Rattle.buck_rule.specs.declared.named.NamedRule.TheVariants.{Step}
-use Rattle.buckfleet_engine.proofs.Statuses.{never_0}
+use Rattle.buckfleet_engine_files.proofs.Statuses.{never_0}
 use Rattle.buck_c_calls.specs.declared.turns.Texts.{Texts}
 use Rattle.buck_c_calls.specs.Books.{rule_of}
 use Rattle.buck_c_calls.specs.Turns.{ArePut, HaveTexts, IsTurned}

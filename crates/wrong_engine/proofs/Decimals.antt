@@ -1,9 +1,9 @@
 -- Numbers in decimal, and lines with them.
 use Rattle.std.proofs.Common.{◌≡◌, ℕ, List, [], ◌∷◌, length, slice_index_or, Some, sym, ap, ◌∙◌, refl, arith}
 use Rattle.std.specs.Fmt.{decimal, digits}
-use Rattle.buckfleet_engine.specs.declared.fault.EngineFault.TheVariants.{Read}
-use Rattle.buckfleet_engine.specs.Faults.{fault_line}
-use Rattle.buckfleet_engine.specs.run.Serving.{AppendsFirst}
+use Rattle.buckfleet_engine_files.specs.declared.fault.EngineFault.TheVariants.{Read}
+use Rattle.buckfleet_engine_files.specs.Faults.{fault_line}
+use Rattle.buckfleet_engine_files.specs.Written.{AppendsFirst}
 use Rattle.wrong_engine.proofs.Unlike.{taken_whole}
 
 pub one : decimal 1 ≡ 49 ∷ []

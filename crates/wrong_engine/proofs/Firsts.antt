@@ -2,12 +2,12 @@
 use Rattle.std.proofs.Common.{◌≡◌, ◌≢◌, ℕ, List, [], ◌++◌, Option, Some, Result, Ok, Err, true, sym, ap, ◌∙◌}
 use Rattle.std.specs.Result.{is_ok}
 use Rattle.buck_book_postings.specs.History.{HistoryParts}
-use Rattle.buckfleet_engine.specs.declared.fault.EngineFault.{EngineFault}
+use Rattle.buckfleet_engine_files.specs.declared.fault.EngineFault.{EngineFault}
 use Rattle.buckfleet_engine.specs.declared.fleet.serving.Order.{Order}
-use Rattle.buckfleet_engine.specs.run.Reading.{ReadsApt}
-use Rattle.buckfleet_engine.specs.fleet.Lent.{OfWriter}
+use Rattle.buckfleet_engine_files.specs.Reading.{ReadsApt}
+use Rattle.buckfleet_engine_files.specs.Lent.{OfWriter}
 use Rattle.buckfleet_engine.specs.fleet.Running.{AreFirsts, IsFleetRun}
-use Rattle.buckfleet_engine.specs.text.Report.{ending_of, report_of}
+use Rattle.buckfleet_engine_text.specs.Report.{ending_of, report_of}
 
 -- no run that ended well wrote what is the report of no such history
 pub not_of_firsts : (reads : ReadsApt) (order : Order) (ByRule : HistoryParts → Type 0) (apt : Option (List ℕ))

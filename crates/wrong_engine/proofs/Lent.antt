@@ -4,15 +4,16 @@ use Rattle.buck_apt.specs.Instruction.{InstructionParts}
 use Rattle.buck_book_postings.specs.History.{IsLawful}
 use Rattle.buck_book_journal.specs.reading.Journal.{JournalParts, journal_of}
 use Rattle.buck_book_journal.specs.judging.Replay.{history_of}
-use Rattle.buckfleet_engine.specs.declared.fault.EngineFault.{EngineFault}
-use Rattle.buckfleet_engine.specs.declared.run.asked.Shown.{Shown}
-use Rattle.buckfleet_engine.specs.declared.run.asked.Shown.TheVariants.{Page}
-use Rattle.buckfleet_engine.specs.run.Opening.{AnswersInputs, OpensEach}
-use Rattle.buckfleet_engine.specs.run.Reading.{ReadsApt}
+use Rattle.buckfleet_engine_files.specs.declared.fault.EngineFault.{EngineFault}
+use Rattle.buckfleet_engine_page.specs.declared.asked.Shown.{Shown}
+use Rattle.buckfleet_engine_page.specs.declared.asked.Shown.TheVariants.{Page}
+use Rattle.buckfleet_engine_files.specs.Opening.{AnswersInputs, OpensEach}
+use Rattle.buckfleet_engine_files.specs.Reading.{ReadsApt}
 use Rattle.buckfleet_engine.specs.run.Serving.{status_after}
-use Rattle.buckfleet_engine.specs.run.Several.{AreLawful, HaveJournals, HaveSeveral, ShowsPages}
-use Rattle.buckfleet_engine.specs.run.Showing.{ShowsOpened}
-use Rattle.buckfleet_engine.proofs.Statuses.{never_0}
+use Rattle.buckfleet_engine_files.specs.Several.{AreLawful, HaveJournals, HaveSeveral}
+use Rattle.buckfleet_engine_page.specs.Several.{ShowsPages}
+use Rattle.buckfleet_engine_page.specs.Showing.{ShowsOpened}
+use Rattle.buckfleet_engine_files.proofs.Statuses.{never_0}
 
 -- an instruction and the second of two journals, which isn't lawful for it
 abbrev pub IsUnlawful : ReadsApt → List ℕ → List ℕ → Type 0

@@ -9,13 +9,14 @@ use Rattle.buck_book_postings.specs.Posting.{harvester_of}
 use Rattle.buck_book_postings.specs.History.{HistoryParts}
 use Rattle.buck_book_postings.specs.Replies.{stem_cut, replies_from, replies_of}
 use Rattle.buck_stem.specs.file.Stm.{stm_of}
-use Rattle.buckfleet_engine.specs.declared.fault.EngineFault.{EngineFault}
-use Rattle.buckfleet_engine.specs.declared.fault.EngineFault.TheVariants.{Full}
+use Rattle.buckfleet_engine_files.specs.declared.fault.EngineFault.{EngineFault}
+use Rattle.buckfleet_engine_files.specs.declared.fault.EngineFault.TheVariants.{Full}
 use Rattle.buckfleet_engine.specs.declared.fleet.serving.Order.{Order}
 use Rattle.buckfleet_engine.specs.declared.fleet.serving.Order.TheVariants.{InTurn}
-use Rattle.buckfleet_engine.specs.run.Reading.{ReadsApt}
-use Rattle.buckfleet_engine.specs.fleet.Lent.{OfWriter}
-use Rattle.buckfleet_engine.specs.fleet.Running.{stems_cut_by, HaveTooMany, IsFleetRun}
+use Rattle.buckfleet_engine_files.specs.Reading.{ReadsApt}
+use Rattle.buckfleet_engine_files.specs.Lent.{OfWriter}
+use Rattle.buckfleet_engine_files.specs.Listed.{stems_cut_by}
+use Rattle.buckfleet_engine.specs.fleet.Running.{HaveTooMany, IsFleetRun}
 
 -- no harvester has more postings than there are
 replies_low : (h p : ℕ) (xs : List Posting) → length (replies_from h p xs) ≤ length xs

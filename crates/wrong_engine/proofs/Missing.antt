@@ -1,9 +1,9 @@
 -- Two files of which only the second is missing.
 use Rattle.std.proofs.Common.{◌≡◌, ℕ, List, Option, Some, None, Result, Ok, Err, ap, ◌∙◌}
 use mathlib.Core.Logic.{inl, inr}
-use Rattle.buckfleet_engine.specs.declared.fault.EngineFault.{EngineFault}
-use Rattle.buckfleet_engine.specs.declared.fault.EngineFault.TheVariants.{Read}
-use Rattle.buckfleet_engine.specs.run.Opening.{AnswersOpening}
+use Rattle.buckfleet_engine_files.specs.declared.fault.EngineFault.{EngineFault}
+use Rattle.buckfleet_engine_files.specs.declared.fault.EngineFault.TheVariants.{Read}
+use Rattle.buckfleet_engine_files.specs.Opening.{AnswersOpening}
 use Rattle.buckfleet_engine.specs.run.Bucking.{AnswersBuck}
 use Rattle.buckfleet_engine.specs.run.Serving.{RunsOpened}
 

@@ -4,16 +4,17 @@ use Rattle.std.specs.Prelude.{◌⊎◌}
 use Rattle.std.specs.Fmt.{digits}
 use Rattle.std.proofs.lemmas.List.{length-take}
 use Rattle.std.proofs.lemmas.Option.{none-some}
-use Rattle.buckfleet_engine.specs.declared.fault.EngineFault.{EngineFault}
-use Rattle.buckfleet_engine.specs.declared.fault.EngineFault.TheVariants.{Read, Write, Apt, Stm, Journal, JournalOf, Replay, ReplayOf, Check, Seats, Full, Memory, Close}
-use Rattle.buckfleet_engine.specs.declared.run.asked.Shown.{Shown}
-use Rattle.buckfleet_engine.specs.declared.run.asked.Shown.TheVariants.{Table}
-use Rattle.buckfleet_engine.specs.Faults.{fault_line}
-use Rattle.buckfleet_engine.specs.run.Opening.{AnswersAll, AnswersInputs, OpensEach, OpensUpTo}
-use Rattle.buckfleet_engine.specs.run.Reading.{ReadsApt}
-use Rattle.buckfleet_engine.specs.run.Serving.{AppendsFirst, TellsOutcome, status_after}
-use Rattle.buckfleet_engine.specs.run.Several.{ShowsTables}
-use Rattle.buckfleet_engine.specs.run.Showing.{ShowsOpened}
+use Rattle.buckfleet_engine_files.specs.declared.fault.EngineFault.{EngineFault}
+use Rattle.buckfleet_engine_files.specs.declared.fault.EngineFault.TheVariants.{Read, Write, Apt, Stm, Journal, JournalOf, Replay, ReplayOf, Check, Seats, Full, Memory, Close}
+use Rattle.buckfleet_engine_page.specs.declared.asked.Shown.{Shown}
+use Rattle.buckfleet_engine_page.specs.declared.asked.Shown.TheVariants.{Table}
+use Rattle.buckfleet_engine_files.specs.Faults.{fault_line}
+use Rattle.buckfleet_engine_files.specs.Opening.{AnswersAll, AnswersInputs, OpensEach, OpensUpTo}
+use Rattle.buckfleet_engine_files.specs.Reading.{ReadsApt}
+use Rattle.buckfleet_engine_files.specs.Written.{AppendsFirst}
+use Rattle.buckfleet_engine.specs.run.Serving.{TellsOutcome, status_after}
+use Rattle.buckfleet_engine_page.specs.Several.{ShowsTables}
+use Rattle.buckfleet_engine_page.specs.Showing.{ShowsOpened}
 use Rattle.wrong_engine.proofs.Unlike.{taken_whole}
 
 -- the line of file 1

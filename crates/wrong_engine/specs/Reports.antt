@@ -6,8 +6,8 @@ use Rattle.buck_apt.specs.Instruction.{AssortmentParts, index_of}
 use Rattle.buck_record.specs.writing.Line.{line_of}
 use Rattle.buck_book_postings.specs.declared.posting.Posting.{Posting}
 use Rattle.buck_book_postings.specs.Degree.{part_of, degree_of}
-use Rattle.buckfleet_engine.specs.text.Bucking.{total_line}
-use Rattle.buckfleet_engine.specs.text.Report.{EndingParts, degree_line, logs_in, posting_lines, worth_in}
+use Rattle.buckfleet_engine_text.specs.Bucking.{total_line}
+use Rattle.buckfleet_engine_text.specs.Report.{EndingParts, degree_line, logs_in, posting_lines, worth_in}
 
 -- all postings but the first, in the places that they have
 abbrev pub lines_after_first : List Posting → List ℕ

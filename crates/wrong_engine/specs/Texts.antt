@@ -6,7 +6,7 @@ use Rattle.buck_value.specs.declared.log.Log.{Log}
 use Rattle.buck_value.specs.Sheet.{SheetParts}
 use Rattle.buck_value.specs.Allowed.{class_of, worth_of}
 use Rattle.buck_dp.specs.Best.{cutting_worth}
-use Rattle.buckfleet_engine.specs.text.Bucking.{CutStem, log_line, logs_of, name_of, named_line_of, stem_line, total_line, worth_of_all}
+use Rattle.buckfleet_engine_text.specs.Bucking.{CutStem, log_line, logs_of, name_of, named_line_of, stem_line, total_line, worth_of_all}
 
 -- a LOG line with the diameter where the log begins in the place of the one where it ends
 abbrev pub butt_line : SheetParts → StemParts → Log → List ℕ

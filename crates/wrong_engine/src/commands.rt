@@ -3,7 +3,8 @@ ghost use Rattle.std.specs.Prelude.{◌≡◌, ◌≢◌, ◌+◌, ◌<◌, leng
 
 use buck_rule::NamedRule;
 use buckfleet_command::{Work, serve_work};
-use buckfleet_engine::{BuckTask, FleetTask, Make, Nobody, Open, Order, Settings};
+use buckfleet_engine::{BuckTask, FleetTask, Order, Settings};
+use buckfleet_engine_files::{Make, Nobody, Open};
 use buckfleet_terms_files::conclude_terms;
 use std::alloc::Global;
 use std::sync::Wait;

@@ -1,6 +1,7 @@
 //! Wrong bodies of what is said of a fault.
 use buck_apt::AptFault;
-use buckfleet_engine::{EngineFault, conclude, explain, status, write_fault};
+use buckfleet_engine::{conclude, explain};
+use buckfleet_engine_files::{EngineFault, status, write_fault};
 use std::alloc::Global;
 
 /// Status 1, as after a refused file, if there are not 1 to 64 stem files.

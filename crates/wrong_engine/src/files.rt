@@ -6,11 +6,12 @@ ghost use Rattle.buck_apt.specs.Apt.{apt_of};
 ghost use Rattle.buck_book_postings.specs.History.{IsLawful};
 ghost use Rattle.buck_book_journal.specs.reading.Journal.{JournalParts, journal_of};
 ghost use Rattle.buck_book_journal.specs.judging.Replay.{history_of};
-ghost use Rattle.buckfleet_engine.specs.run.Checking.{lawful_line};
+ghost use Rattle.buckfleet_engine_files.specs.Checking.{lawful_line};
 ghost use Rattle.buckfleet_engine.specs.run.Bucking.{is_bar};
 
 use buck_apt::AptFault;
-use buckfleet_engine::{EngineFault, run_bare, run_buck, run_check};
+use buckfleet_engine::{run_bare, run_buck, run_check};
+use buckfleet_engine_files::EngineFault;
 use std::alloc::Global;
 
 /// Refuses an instruction that isn't to be refused.

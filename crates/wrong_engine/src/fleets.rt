@@ -4,11 +4,12 @@ ghost use Rattle.buck_stem.specs.Stem.{StemParts};
 ghost use Rattle.buck_stem.specs.file.Stm.{stm_of};
 ghost use Rattle.buck_book_postings.specs.History.{HistoryParts};
 ghost use Rattle.buckfleet_engine.specs.fleet.Running.{AreFirsts};
-ghost use Rattle.buckfleet_engine.specs.text.Report.{ending_of, report_of};
+ghost use Rattle.buckfleet_engine_text.specs.Report.{ending_of, report_of};
 
 use crate::views::Calls;
 use buck_rule::{Rule, Standing, steady};
-use buckfleet_engine::{EngineFault, run_fleet_files};
+use buckfleet_engine::run_fleet_files;
+use buckfleet_engine_files::EngineFault;
 use std::alloc::Global;
 use std::sync::Wait;
 use std::thread::Threads;

@@ -5,10 +5,11 @@ ghost use Rattle.buck_apt.specs.Apt.{apt_of};
 ghost use Rattle.buck_book_postings.specs.History.{IsLawful};
 ghost use Rattle.buck_book_journal.specs.reading.Journal.{JournalParts, journal_of};
 ghost use Rattle.buck_book_journal.specs.judging.Replay.{history_of};
-ghost use Rattle.buckfleet_engine.specs.text.Report.{ending_of, report_of};
+ghost use Rattle.buckfleet_engine_text.specs.Report.{ending_of, report_of};
 
 use crate::opened::Missing;
-use buckfleet_engine::{EngineFault, Nobody, Settings, Task, run_report, serve};
+use buckfleet_engine::{Settings, Task, run_report, serve};
+use buckfleet_engine_files::{EngineFault, Nobody};
 use std::alloc::Global;
 
 /// The report of a journal is written that isn't lawful.

@@ -7,9 +7,9 @@ ghost use Rattle.buckfleet_engine.specs.run.Bucking.{is_bar};
 
 use buck_rule::NamedRule;
 use buckfleet_engine::{
-    BuckTask, FleetTask, Make, Nobody, Open, Order, Settings, Task, conclude, serve, serve_buck,
-    serve_fleet,
+    BuckTask, FleetTask, Order, Settings, Task, conclude, serve, serve_buck, serve_fleet,
 };
+use buckfleet_engine_files::{Make, Nobody, Open};
 use std::alloc::Global;
 use std::sync::Wait;
 use std::thread::Threads;

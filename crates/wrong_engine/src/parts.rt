@@ -7,11 +7,13 @@ ghost use Rattle.buck_book_journal.specs.reading.Journal.{JournalParts, journal_
 ghost use Rattle.buck_book_journal.specs.judging.Replay.{history_of};
 ghost use Rattle.buck_stem.specs.Stem.{StemParts};
 ghost use Rattle.buck_stem.specs.file.Stm.{stm_of};
-ghost use Rattle.buckfleet_engine.specs.run.Reading.{apt_with};
-ghost use Rattle.buckfleet_engine.specs.text.Bucking.{CutStem, IsBucking, base_sheet, text_of};
+ghost use Rattle.buckfleet_engine_files.specs.Reading.{apt_with};
+ghost use Rattle.buckfleet_engine_text.specs.Bucking.{CutStem, IsBucking, base_sheet, text_of};
 ghost use Rattle.wrong_engine.specs.Texts.{first_half, halves_swapped};
 
-use buckfleet_engine::{CrossCheck, Nobody, SeveralThreads, run_buck_in_parts, run_check_with};
+use buckfleet_engine::run_buck_in_parts;
+use buckfleet_engine_cross_check::{CrossCheck, run_check_with};
+use buckfleet_engine_files::{Nobody, SeveralThreads};
 use std::alloc::Global;
 use std::thread::Threads;
 

@@ -4,11 +4,11 @@ ghost use Rattle.buck_apt.specs.Instruction.{AssortmentParts};
 ghost use Rattle.buck_book_postings.specs.Counts.{AreClassCounts};
 ghost use Rattle.buck_book_postings.specs.Posting.{targets_of};
 ghost use Rattle.buck_book_postings.specs.Degree.{part_of};
-ghost use Rattle.buckfleet_engine.specs.text.Report.{all_lines, ending_of, posting_lines, totals_line};
+ghost use Rattle.buckfleet_engine_text.specs.Report.{all_lines, ending_of, posting_lines, totals_line};
 ghost use Rattle.wrong_engine.specs.Reports.{lines_after_first, opening_lines, postings_total};
 
 use buck_fleet::Closed;
-use buckfleet_engine::{degree, report_text};
+use buckfleet_engine_text::{degree, report_text};
 use std::alloc::Global;
 
 /// The first posting has no line.

@@ -2,12 +2,12 @@
 //! best cuttings of each.
 ghost use Rattle.std.specs.Prelude.{◌≡◌, ◌≢◌, ◌++◌, List, length};
 ghost use Rattle.std.specs.List.{flat_map};
-ghost use Rattle.buckfleet_engine.specs.text.Bucking.{CutStem, IsBucking, base_sheet, logs_of, stem_lines, total_line, worth_of_all};
+ghost use Rattle.buckfleet_engine_text.specs.Bucking.{CutStem, IsBucking, base_sheet, logs_of, stem_lines, total_line, worth_of_all};
 ghost use Rattle.wrong_engine.specs.Texts.{butt_lines, half_lines, last_total, text_with};
 
 use buck_apt::Instruction;
 use buck_stem::Stem;
-use buckfleet_engine::buck_text;
+use buckfleet_engine_text::buck_text;
 use std::alloc::Global;
 
 /// The diameter at a log's butt end stands in its line in the place of the one at its top.

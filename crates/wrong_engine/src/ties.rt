@@ -6,15 +6,15 @@ ghost use Rattle.buck_stem.specs.file.Stm.{stm_of};
 ghost use Rattle.buck_book_journal.specs.reading.Journal.{JournalParts, journal_of};
 ghost use Rattle.buck_book_journal.specs.judging.Replay.{history_of};
 ghost use Rattle.buck_rule.specs.declared.named.NamedRule.TheVariants.{Linear};
-ghost use Rattle.buckfleet_engine.specs.run.Reading.{apt_with};
-ghost use Rattle.buckfleet_engine.specs.tie.Ties.{FollowsRule, stems_by};
+ghost use Rattle.buckfleet_engine_files.specs.Reading.{apt_with};
+ghost use Rattle.buckfleet_engine_files.specs.Ruled.{FollowsRule};
+ghost use Rattle.buckfleet_engine_cross_check.specs.Ties.{stems_by};
 
 use crate::opened::Missing;
 use buck_rule::NamedRule;
-use buckfleet_engine::{
-    CheckFault, CheckTask, CrossCheck, EngineFault, Nobody, OneThread, Settings, run_check_with,
-    serve_check, status,
-};
+use buckfleet_engine::Settings;
+use buckfleet_engine_cross_check::{CheckTask, CrossCheck, run_check_with, serve_check};
+use buckfleet_engine_files::{CheckFault, EngineFault, Nobody, OneThread, status};
 use std::alloc::Global;
 use std::thread::Threads;
 

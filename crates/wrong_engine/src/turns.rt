@@ -7,11 +7,12 @@ ghost use Rattle.buck_book_postings.specs.History.{HistoryParts};
 ghost use Rattle.buck_book_postings.specs.Pricing.{AreSheetsBy};
 ghost use Rattle.buck_fleet_round_robin.specs.Turn.{AreInTurn};
 ghost use Rattle.buckfleet_engine.specs.fleet.Running.{AreFirsts};
-ghost use Rattle.buckfleet_engine.specs.text.Report.{ending_of, report_of};
+ghost use Rattle.buckfleet_engine_text.specs.Report.{ending_of, report_of};
 
 use crate::views::Calls;
 use buck_rule::{Rule, Standing, steady};
-use buckfleet_engine::{EngineFault, run_in_turn};
+use buckfleet_engine::run_in_turn;
+use buckfleet_engine_files::EngineFault;
 use std::alloc::Global;
 
 /// 65 stem files are accepted.

@@ -6,13 +6,12 @@ ghost use Rattle.buck_apt.specs.Settings.{own_numbers};
 ghost use Rattle.buck_book_postings.specs.History.{IsLawful};
 ghost use Rattle.buck_book_journal.specs.reading.Journal.{JournalParts, journal_of};
 ghost use Rattle.buck_book_journal.specs.judging.Replay.{history_of};
-ghost use Rattle.buckfleet_engine.specs.run.Reading.{apt_with};
+ghost use Rattle.buckfleet_engine_files.specs.Reading.{apt_with};
 
 use crate::opened::Missing;
-use buckfleet_engine::{
-    EngineFault, Files, Nobody, Open, Settings, Shown, Table, ViewTask, conclude, run_table,
-    run_view, serve_view,
-};
+use buckfleet_engine::{Settings, conclude};
+use buckfleet_engine_files::{EngineFault, Nobody, Open};
+use buckfleet_engine_page::{Files, Shown, Table, ViewTask, run_table, run_view, serve_view};
 use std::alloc::Global;
 use std::io;
 use std::thread::Threads;

@@ -13,8 +13,8 @@ use Rattle.buck_dp_own_logs.specs.declared.judging.Judged.TheVariants.{Admissibl
 use Rattle.buck_dp_own_logs.specs.Judged.{IsJudged}
 use Rattle.buck_dp_own_logs.proofs.Alone.{one_judged}
 use Rattle.buck_book_postings.specs.History.{HistoryParts, in_force}
-use Rattle.buckfleet_engine.specs.Faults.{memory_line}
-use Rattle.buckfleet_engine.specs.text.Bucking.{named_line_of}
+use Rattle.buckfleet_engine_files.specs.Faults.{memory_line}
+use Rattle.buckfleet_engine_text.specs.Bucking.{named_line_of}
 use Rattle.buck_record.specs.writing.Written.{spelled}
 use Rattle.buckfleet_live.specs.Lines.{lines_of}
 use Rattle.buckfleet_live.specs.Request.{request_of}

@@ -10,12 +10,12 @@ use Rattle.buck_book_postings.specs.Book.{BookParts}
 use Rattle.buck_book_postings.specs.Pricing.{AreSheetsBy}
 use Rattle.buck_book_postings.proofs.Given.{none_given}
 use Rattle.buck_book_journal.specs.Written.{journal_text}
-use Rattle.buckfleet_engine.specs.declared.fault.EngineFault.{EngineFault}
-use Rattle.buckfleet_engine.specs.Faults.{status_of}
+use Rattle.buckfleet_engine_files.specs.declared.fault.EngineFault.{EngineFault}
+use Rattle.buckfleet_engine_files.specs.Faults.{status_of}
 use Rattle.buckfleet_engine.specs.run.Serving.{status_after}
-use Rattle.buckfleet_engine.specs.fleet.Lent.{OfWriter}
-use Rattle.buckfleet_engine.specs.tie.Ties.{FollowsRule}
-use Rattle.buckfleet_engine.proofs.Statuses.{never_0}
+use Rattle.buckfleet_engine_files.specs.Lent.{OfWriter}
+use Rattle.buckfleet_engine_files.specs.Ruled.{FollowsRule}
+use Rattle.buckfleet_engine_files.proofs.Statuses.{never_0}
 use Rattle.buckfleet_live.specs.declared.serving.LiveTask.{LiveTask}
 use Rattle.buck_book_cutter.specs.Cut.{StaysByRule, opening}
 use Rattle.buckfleet_live.specs.Live.{IsLiveRun}

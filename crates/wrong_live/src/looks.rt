@@ -10,7 +10,7 @@ ghost use Rattle.buck_dp_own_logs.specs.declared.reason.Reason.TheVariants.{Spec
 ghost use Rattle.buck_dp_own_logs.specs.declared.judging.Judged.TheVariants.{Admissible, Refused};
 ghost use Rattle.buck_dp_own_logs.specs.Judged.{IsJudged};
 ghost use Rattle.buck_book_postings.specs.History.{in_force};
-ghost use Rattle.buckfleet_engine.specs.Faults.{memory_line};
+ghost use Rattle.buckfleet_engine_files.specs.Faults.{memory_line};
 ghost use Rattle.buckfleet_live.specs.Lines.{lines_of};
 ghost use Rattle.buckfleet_live.specs.Request.{request_of};
 ghost use Rattle.buckfleet_live.specs.Answers.{preview_lines};

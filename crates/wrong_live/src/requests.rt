@@ -8,13 +8,14 @@ ghost use Rattle.buck_rule.specs.declared.named.NamedRule.TheVariants.{Step};
 ghost use Rattle.buck_book_postings.specs.History.{HistoryParts};
 ghost use Rattle.buck_book_postings.specs.Pricing.{AreSheetsBy};
 ghost use Rattle.buck_book_journal.specs.Written.{journal_text};
-ghost use Rattle.buckfleet_engine.specs.tie.Ties.{FollowsRule};
+ghost use Rattle.buckfleet_engine_files.specs.Ruled.{FollowsRule};
 ghost use Rattle.buck_book_cutter.specs.Cut.{opening};
 ghost use Rattle.buckfleet_live.specs.Live.{IsLiveRun};
 
 use buck_apt::Instruction;
 use buck_rule::{Rule, Standing};
-use buckfleet_engine::{EngineFault, Make, Nobody, Open, conclude};
+use buckfleet_engine::conclude;
+use buckfleet_engine_files::{EngineFault, Make, Nobody, Open};
 use buckfleet_live::{Live, LiveTask, Replies, read_request, serve_live};
 use std::alloc::Global;
 use std::sync::Arc;

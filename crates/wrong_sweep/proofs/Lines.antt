@@ -11,12 +11,12 @@ use Rattle.buck_record.specs.checking.Check.{◌>>=◌}
 use Rattle.buck_stem.specs.Stem.{StemParts}
 use Rattle.buck_stem.specs.file.Stm.{stm_of}
 use Rattle.buck_page_figures.specs.Figures.{worth_in}
-use Rattle.buckfleet_engine.specs.declared.fault.EngineFault.{EngineFault}
-use Rattle.buckfleet_engine.specs.declared.fault.EngineFault.TheVariants.{Full}
+use Rattle.buckfleet_engine_files.specs.declared.fault.EngineFault.{EngineFault}
+use Rattle.buckfleet_engine_files.specs.declared.fault.EngineFault.TheVariants.{Full}
 use Rattle.buck_rule.specs.declared.named.NamedRule.{NamedRule}
 use Rattle.buck_rule.specs.Named.{rule_name}
 use Rattle.buckfleet_engine.specs.fleet.Running.{HaveTooMany}
-use Rattle.buckfleet_engine.specs.run.Reading.{Says, apt_with}
+use Rattle.buckfleet_engine_files.specs.Reading.{Says, apt_with}
 use Rattle.buckfleet_trial_sweep.specs.declared.combination.Combination.{Combination}
 use Rattle.buckfleet_trial_sweep.specs.Sweep.{AreLines, IsLineOver, IsSweepRun, IsTable}
 use Rattle.buckfleet_trial_sweep.specs.Table.{IsLine, apart_of, back_of, cell, cells, head_line, line_of, volumes_of, wholes_of}

@@ -9,7 +9,7 @@ use Rattle.buck_page_figures.specs.Figures.{volume_in, worth_in}
 use Rattle.buck_page_figures.specs.declared.degrees.Degrees.{Degrees}
 use Rattle.buck_rule.specs.declared.named.NamedRule.{NamedRule}
 use Rattle.buck_rule.specs.Named.{rule_name}
-use Rattle.buckfleet_engine.specs.run.Reading.{Says}
+use Rattle.buckfleet_engine_files.specs.Reading.{Says}
 use Rattle.buckfleet_trial_sweep.specs.declared.combination.Combination.{Combination}
 use Rattle.buckfleet_trial_sweep.specs.Sweep.{IsLineOver}
 use Rattle.buckfleet_trial_sweep.specs.Table.{Assorted, apart_of, cells, front_of, head_line, line_of, rate_of, volumes_of, wholes_of}

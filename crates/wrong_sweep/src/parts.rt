@@ -4,7 +4,7 @@ ghost use Rattle.buck_rule.specs.declared.named.NamedRule.TheVariants.{Steady, S
 ghost use Rattle.buckfleet_trial_sweep.specs.Sweep.{IsLineOver};
 ghost use Rattle.wrong_sweep.specs.Texts.{StandsIn, own_run};
 
-use buckfleet_engine::Nobody;
+use buckfleet_engine_files::Nobody;
 use buckfleet_trial_sweep::{SweepTask, run_sweep_in_parts};
 use std::alloc::Global;
 use std::thread::Threads;

@@ -4,14 +4,14 @@ ghost use Rattle.buck_stem.specs.Stem.{StemParts};
 ghost use Rattle.buck_stem.specs.file.Stm.{stm_of};
 ghost use Rattle.buck_book_postings.specs.History.{HistoryParts};
 ghost use Rattle.buck_rule.specs.declared.named.NamedRule.TheVariants.{Steady, Step};
-ghost use Rattle.buckfleet_engine.specs.tie.Ties.{FollowsRule};
+ghost use Rattle.buckfleet_engine_files.specs.Ruled.{FollowsRule};
 ghost use Rattle.buckfleet_engine.specs.fleet.Running.{AreFirsts};
 ghost use Rattle.buckfleet_trial_sweep.specs.Sweep.{IsLineOver};
 ghost use Rattle.buckfleet_trial_sweep.specs.Table.{IsLine, cells};
 ghost use Rattle.wrong_sweep.specs.Texts.{HasGreatest, HasInstead, HasSwappedDegrees, HasSwappedVolumes, IsInForce, StandsIn, own_run};
 
 use buck_rule::NamedRule;
-use buckfleet_engine::EngineFault;
+use buckfleet_engine_files::EngineFault;
 use buckfleet_trial_sweep::{Combination, Settings, run_sweep};
 use std::alloc::Global;
 use std::io;

@@ -8,11 +8,11 @@ use Rattle.buck_book_postings.specs.History.{IsLawful}
 use Rattle.buck_book_journal.specs.reading.Journal.{JournalParts, journal_of}
 use Rattle.buck_book_journal.specs.judging.Replay.{history_of}
 use Rattle.buck_page_figures.specs.Journals.{postings_of}
-use Rattle.buckfleet_engine.specs.declared.fault.EngineFault.{EngineFault}
-use Rattle.buckfleet_engine.specs.declared.fault.EngineFault.TheVariants.{Journal, JournalOf, Replay}
-use Rattle.buckfleet_engine.specs.run.Reading.{apt_with}
-use Rattle.buckfleet_engine.specs.run.Several.{AreLawful, HaveJournals, IsSeveralFault}
-use Rattle.buckfleet_engine.specs.text.Written.{WritesText}
+use Rattle.buckfleet_engine_files.specs.declared.fault.EngineFault.{EngineFault}
+use Rattle.buckfleet_engine_files.specs.declared.fault.EngineFault.TheVariants.{Journal, JournalOf, Replay}
+use Rattle.buckfleet_engine_files.specs.Reading.{apt_with}
+use Rattle.buckfleet_engine_files.specs.Several.{AreLawful, HaveJournals, IsSeveralFault}
+use Rattle.buckfleet_engine_files.specs.Written.{WritesText}
 use Rattle.buckfleet_terms_files.specs.declared.fault.TermsFault.{TermsFault}
 use Rattle.buckfleet_terms_files.specs.declared.fault.TermsFault.TheVariants.{Run}
 use Rattle.buckfleet_terms_files.specs.Telling.{WritesTerms}

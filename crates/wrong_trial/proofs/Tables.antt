@@ -14,8 +14,8 @@ use Rattle.buck_book_postings.specs.History.{HistoryParts}
 use Rattle.buck_book_postings.specs.Replies.{stems_at}
 use Rattle.buckfleet_trial_draws.specs.declared.orders.Draws.{Draws}
 use Rattle.buck_rule.specs.declared.named.NamedRule.{NamedRule}
-use Rattle.buckfleet_engine.specs.declared.fault.EngineFault.{EngineFault}
-use Rattle.buckfleet_engine.specs.declared.fault.EngineFault.TheVariants.{Full}
+use Rattle.buckfleet_engine_files.specs.declared.fault.EngineFault.{EngineFault}
+use Rattle.buckfleet_engine_files.specs.declared.fault.EngineFault.TheVariants.{Full}
 use Rattle.buckfleet_engine.specs.fleet.Running.{HaveTooMany, IsFleetFault}
 use Rattle.buckfleet_trial_sweep.specs.declared.combination.Combination.{Combination}
 use Rattle.buckfleet_trial_sweep.specs.Sweep.{AreLines}

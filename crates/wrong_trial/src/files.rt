@@ -6,7 +6,7 @@ ghost use Rattle.buckfleet_terms_files.specs.Targets.{HasTargets};
 ghost use Rattle.buckfleet_trial.specs.Inputs.{held_with};
 
 use buck_apt::Instruction;
-use buckfleet_engine::{EngineFault, Nobody, Open};
+use buckfleet_engine_files::{EngineFault, Nobody, Open};
 use buckfleet_terms_files::{
     TargetsFault, TermsFault, conclude_terms, open_last, open_more, read_own, read_wanted, status,
     write_terms_fault,

@@ -8,14 +8,14 @@ ghost use Rattle.buck_book_postings.specs.declared.posting.TheConstants.{MOST_PO
 ghost use Rattle.buck_book_journal.specs.reading.Journal.{JournalParts, journal_of};
 ghost use Rattle.buck_book_journal.specs.judging.Replay.{history_of};
 ghost use Rattle.buck_page_figures.specs.Journals.{postings_of};
-ghost use Rattle.buckfleet_engine.specs.run.Reading.{apt_with};
-ghost use Rattle.buckfleet_engine.specs.run.Several.{HaveJournals};
+ghost use Rattle.buckfleet_engine_files.specs.Reading.{apt_with};
+ghost use Rattle.buckfleet_engine_files.specs.Several.{HaveJournals};
 ghost use Rattle.buckfleet_proceeds.specs.Appraisal.{IsAppraisal};
 ghost use Rattle.buckfleet_proceeds.specs.Text.{whole_line};
 ghost use Rattle.buckfleet_proceeds.specs.declared.appraisal.Appraisal.{Appraisal};
 ghost use Rattle.wrong_trial.specs.Texts.{StandsIn};
 
-use buckfleet_engine::{EngineFault, Nobody, SeveralThreads};
+use buckfleet_engine_files::{EngineFault, Nobody, SeveralThreads};
 use buckfleet_proceeds::{AppraiseTask, CompareTask, Opened, run_appraise, run_compare};
 use buckfleet_terms_files::TermsFault;
 use std::alloc::Global;

@@ -1,7 +1,8 @@
 //! Wrong bodies of whole runs of trials, appraisals and comparisons: which files are opened, and what is written then.
 ghost use Rattle.std.specs.Prelude.{◌≡◌, length, None};
 
-use buckfleet_engine::{Nobody, Open, Settings};
+use buckfleet_engine::Settings;
+use buckfleet_engine_files::{Nobody, Open};
 use buckfleet_proceeds::{AppraiseTask, CompareTask, serve_appraise, serve_compare};
 use buckfleet_trial::{TrialTask, serve_trial};
 use std::alloc::Global;

@@ -17,7 +17,7 @@ ghost use Rattle.buckfleet_trial.specs.Inputs.{SaysInput, held_with};
 ghost use Rattle.buckfleet_trial.specs.Trial.{AreAllDrawn, AreSpreads, IsBestFor, starts_of};
 ghost use Rattle.wrong_trial.specs.Texts.{StandsIn, own_run};
 
-use buckfleet_engine::{EngineFault, Nobody};
+use buckfleet_engine_files::{EngineFault, Nobody};
 use buckfleet_terms_files::TermsFault;
 use buckfleet_trial::{Opened, TrialTask, run_trial_in_parts};
 use std::alloc::Global;

@@ -11,7 +11,7 @@ ghost use Rattle.buckfleet_trial.specs.Tune.{tuned_price};
 
 use buck_apt::read_apt;
 use buck_book_postings::Parts;
-use buckfleet_engine::Nobody;
+use buckfleet_engine_files::Nobody;
 use buckfleet_trial::{Opened, TuneTask, run_tune, tuned_prices};
 use std::alloc::Global;
 

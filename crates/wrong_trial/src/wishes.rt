@@ -13,7 +13,7 @@ ghost use Rattle.buckfleet_trial.specs.WishLine.{IsWishLine, whole_line};
 ghost use Rattle.buckfleet_trial.specs.Wishes.{AreRunsOf, AreUnsteered, IsWishAt};
 ghost use Rattle.wrong_trial.specs.Texts.{StandsIn};
 
-use buckfleet_engine::{EngineFault, Nobody};
+use buckfleet_engine_files::{EngineFault, Nobody};
 use buckfleet_terms_files::TermsFault;
 use buckfleet_trial::{Opened, WishesTask, run_wishes_in_parts};
 use std::alloc::Global;

@@ -1,8 +1,8 @@
 -- Why a call over several files gives no text, and what it reports then.
 use Rattle.std.specs.Prelude.{◌≡◌, ◌⊎◌, ℕ, List, [], Option, Result, Ok, Err}
 use Rattle.std.specs.List.{AllZip}
-use Rattle.buckfleet_engine.specs.declared.fault.EngineFault.{EngineFault}
-use Rattle.buckfleet_engine.specs.declared.fault.EngineFault.TheVariants.{Write}
+use Rattle.buckfleet_engine_files.specs.declared.fault.EngineFault.{EngineFault}
+use Rattle.buckfleet_engine_files.specs.declared.fault.EngineFault.TheVariants.{Write}
 use Rattle.buckfleet_terms_files.specs.declared.fault.TermsFault.{TermsFault}
 use Rattle.buckfleet_terms_files.specs.declared.fault.TermsFault.TheVariants.{Run}
 use Rattle.buckfleet_terms_files.specs.Faults.{no_memory, terms_line, terms_status}

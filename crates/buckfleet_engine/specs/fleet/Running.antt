@@ -13,21 +13,18 @@ use Rattle.buck_book_postings.specs.Posting.{harvester_of}
 use Rattle.buck_book_postings.specs.History.{HistoryParts, IsLawful}
 use Rattle.buck_book_postings.specs.Book.{IsFirst}
 use Rattle.buck_book_journal.specs.Written.{journal_text}
-use Rattle.buck_book_postings.specs.Replies.{stem_cut, stems_at, replies_of}
+use Rattle.buck_book_postings.specs.Replies.{stems_at}
 use Rattle.buck_fleet_round_robin.specs.Turn.{AreInTurn}
 use Rattle.buckfleet_engine.specs.declared.fleet.serving.Order.{Order}
 use Rattle.buckfleet_engine.specs.declared.fleet.serving.Order.TheVariants.{AtOnce, InTurn}
-use Rattle.buckfleet_engine.specs.declared.fault.EngineFault.{EngineFault}
-use Rattle.buckfleet_engine.specs.declared.fault.EngineFault.TheVariants.{Seats, Full, Memory, Close}
-use Rattle.buckfleet_engine.specs.run.Reading.{IsAccepted, IsAptFault, IsStmFault, ReadsApt, Says}
-use Rattle.buckfleet_engine.specs.fleet.Lent.{OfWriter}
-use Rattle.buckfleet_engine.specs.text.Written.{AppendsSome, IsRun}
-use Rattle.buckfleet_engine.specs.text.Report.{IsReport}
+use Rattle.buckfleet_engine_files.specs.declared.fault.EngineFault.{EngineFault}
+use Rattle.buckfleet_engine_files.specs.declared.fault.EngineFault.TheVariants.{Seats, Full, Memory, Close}
+use Rattle.buckfleet_engine_files.specs.Reading.{IsAccepted, IsAptFault, IsStmFault, ReadsApt, Says}
+use Rattle.buckfleet_engine_files.specs.Lent.{OfWriter}
+use Rattle.buckfleet_engine_files.specs.Written.{AppendsSome, IsRun}
+use Rattle.buckfleet_engine_text.specs.Report.{IsReport}
 use Rattle.buck_book_postings.specs.declared.posting.TheConstants.{MOST_POSTINGS}
-
--- the stem that each posting of a harvester cut, in their order; none in the place of a demand
-abbrev pub stems_cut_by : ℕ → HistoryParts → List (Option StemParts)
-stems_cut_by harvester h = map (λ k. stem_cut k.entry) (replies_of harvester h)
+use Rattle.buckfleet_engine_files.specs.Listed.{stems_cut_by, AreAccepted}
 
 -- a harvester cut exactly the stems that a file has, in their order
 pub record CutsFile (harvester : ℕ) (h : HistoryParts) (stm : Option (List ℕ)) : Type 0 where
@@ -56,10 +53,6 @@ pub record IsHarvest (reads : ReadsApt) (apt : Option (List ℕ)) (stms : List (
 abbrev pub IsInOrder : Order → (HistoryParts → Type 0) → HistoryParts → Type 0
 IsInOrder AtOnce ByRule h = Unit {0}
 IsInOrder InTurn ByRule h = AreInTurn h.postings × ByRule h
-
--- the first so many stem files are accepted
-abbrev pub AreAccepted : ℕ → List (Option (List ℕ)) → Type 0
-AreAccepted n stms = (k : ℕ) → k < n → IsAccepted stm_of (slice_index_or stms k None)
 
 -- the first n lists have the stems of the first n files' bytes
 abbrev pub AreListsOf : ℕ → List (Option (List ℕ)) → List (Vec (Arc Stem Global) Global) → Type 0

@@ -3,15 +3,15 @@ use Rattle.std.specs.Prelude.{◌≡◌, ℕ, List, map, Option, Some, None, Res
 use Rattle.std.specs.Option.{option_map}
 use Rattle.std.specs.Io.KnownBytes.{Keeps}
 use Rattle.buck_book_postings.specs.History.{HistoryParts}
-use Rattle.buckfleet_engine.specs.declared.fault.EngineFault.{EngineFault}
-use Rattle.buckfleet_engine.specs.declared.fault.EngineFault.TheVariants.{Write}
+use Rattle.buckfleet_engine_files.specs.declared.fault.EngineFault.{EngineFault}
+use Rattle.buckfleet_engine_files.specs.declared.fault.EngineFault.TheVariants.{Write}
 use Rattle.buckfleet_engine.specs.declared.fleet.serving.Order.{Order}
 use Rattle.buckfleet_engine.specs.declared.fleet.serving.FleetTask.{FleetTask}
-use Rattle.buckfleet_engine.specs.fleet.Lent.{no_writer, of_writer}
+use Rattle.buckfleet_engine_files.specs.Lent.{no_writer, of_writer}
 use Rattle.buckfleet_engine.specs.fleet.Running.{IsFleetRun}
-use Rattle.buckfleet_engine.specs.run.Opening.{AnswersInputs}
-use Rattle.buckfleet_engine.specs.run.Reading.{ReadsApt, apt_with}
-use Rattle.buckfleet_engine.specs.tie.Ties.{FollowsRule}
+use Rattle.buckfleet_engine_files.specs.Opening.{AnswersInputs}
+use Rattle.buckfleet_engine_files.specs.Reading.{ReadsApt, apt_with}
+use Rattle.buckfleet_engine_files.specs.Ruled.{FollowsRule}
 
 -- a run over files that are open, whose journal goes into a file that was made; if that can't be, nothing is written
 abbrev pub RunsMade : {F M : Type 0} → (F → Option (List ℕ)) → (M → Option (List ℕ)) → ReadsApt → Order

@@ -9,10 +9,11 @@ use Rattle.buck_stem.specs.declared.stem.Stem.{Stem}
 use Rattle.buck_book_postings.specs.Posting.{harvester_of}
 use Rattle.buck_book_postings.specs.History.{HistoryParts, IsLawful}
 use Rattle.buck_book_postings.specs.Replies.{stems_at}
-use Rattle.buckfleet_engine.specs.declared.fault.EngineFault.{EngineFault}
-use Rattle.buckfleet_engine.specs.declared.fault.EngineFault.TheVariants.{Write, Memory}
-use Rattle.buckfleet_engine.specs.fleet.Lent.{OfWriter}
-use Rattle.buckfleet_engine.specs.fleet.Running.{AreFirsts, stems_cut_by, WroteAll, WroteSome}
+use Rattle.buckfleet_engine_files.specs.declared.fault.EngineFault.{EngineFault}
+use Rattle.buckfleet_engine_files.specs.declared.fault.EngineFault.TheVariants.{Write, Memory}
+use Rattle.buckfleet_engine_files.specs.Lent.{OfWriter}
+use Rattle.buckfleet_engine.specs.fleet.Running.{AreFirsts, WroteAll, WroteSome}
+use Rattle.buckfleet_engine_files.specs.Listed.{stems_cut_by}
 use Rattle.buck_book_postings.specs.declared.posting.TheConstants.{MOST_POSTINGS}
 
 -- a lawful history of an instruction, of at most 1,000,000 postings, each cutting the first of the best ones, in which

@@ -4,13 +4,10 @@ use Rattle.buck_apt.specs.Instruction.{InstructionParts}
 use Rattle.buck_apt.specs.Apt.{apt_of}
 use Rattle.buck_stem.specs.Stem.{StemParts}
 use Rattle.buck_stem.specs.file.Stm.{stm_of}
-use Rattle.buckfleet_engine.specs.declared.fault.EngineFault.{EngineFault}
-use Rattle.buckfleet_engine.specs.declared.fault.EngineFault.TheVariants.{Apt, Stm, Memory}
-use Rattle.buckfleet_engine.specs.text.Bucking.{IsBuckText}
-
--- the bytes are refused, which is named so, or memory ran out
-abbrev pub AreRefused : {V F : Type 0} → (F → EngineFault) → (List ℕ → Result V F) → List ℕ → EngineFault → Type 0
-AreRefused named reading bytes fault = (fault ≡ Memory) ⊎ ((why : _) × (fault ≡ named why) × (reading bytes ≡ Err why))
+use Rattle.buckfleet_engine_files.specs.declared.fault.EngineFault.{EngineFault}
+use Rattle.buckfleet_engine_files.specs.declared.fault.EngineFault.TheVariants.{Apt, Stm}
+use Rattle.buckfleet_engine_text.specs.Bucking.{IsBuckText}
+use Rattle.buckfleet_engine_files.specs.Reading.{AreRefused}
 
 -- the text of the instruction and the stems that the bytes of two files have
 pub record HaveText (apt stm text : List ℕ) : Type 0 where

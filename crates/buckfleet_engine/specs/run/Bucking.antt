@@ -6,10 +6,10 @@ use Rattle.buck_apt.specs.Instruction.{InstructionParts}
 use Rattle.buck_apt.specs.Apt.{apt_of}
 use Rattle.buck_stem.specs.Stem.{StemParts}
 use Rattle.buck_stem.specs.file.Stm.{stm_of}
-use Rattle.buckfleet_engine.specs.declared.fault.EngineFault.{EngineFault}
-use Rattle.buckfleet_engine.specs.declared.fault.EngineFault.TheVariants.{Stm}
-use Rattle.buckfleet_engine.specs.text.Bucking.{IsBuckText}
-use Rattle.buckfleet_engine.specs.run.Reading.{IsAccepted, IsAptFault, IsFileFault, IsStmFault, IsWithinLimit, Says}
+use Rattle.buckfleet_engine_files.specs.declared.fault.EngineFault.{EngineFault}
+use Rattle.buckfleet_engine_files.specs.declared.fault.EngineFault.TheVariants.{Stm}
+use Rattle.buckfleet_engine_text.specs.Bucking.{IsBuckText}
+use Rattle.buckfleet_engine_files.specs.Reading.{IsAccepted, IsAptFault, IsFileFault, IsStmFault, IsWithinLimit, Says}
 
 -- the text of the instruction and the stems that the two files have
 pub record IsAnswerTo (apt stm : Option (List ℕ)) (text : List ℕ) : Type 0 where

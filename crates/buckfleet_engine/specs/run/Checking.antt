@@ -1,35 +1,18 @@
 -- What a check of a journal and a report of it answer.
-use Rattle.std.specs.Prelude.{◌≡◌, ◌⊎◌, ℕ, List, [], ◌∷◌, length, Option, Result, Ok, Err, codes}
-use Rattle.buck_record.specs.writing.Line.{line_of}
+use Rattle.std.specs.Prelude.{◌⊎◌, ℕ, List, Option, Result, Ok, Err}
 use Rattle.buck_apt.specs.Instruction.{InstructionParts}
 use Rattle.buck_apt.specs.Apt.{apt_of}
-use Rattle.buck_book_postings.specs.History.{HistoryParts, IsLawful}
+use Rattle.buck_book_postings.specs.History.{IsLawful}
 use Rattle.buck_book_journal.specs.reading.Journal.{JournalParts, journal_of}
-use Rattle.buck_book_journal.specs.judging.Replay.{history_of, IsFirstFault}
-use Rattle.buckfleet_engine.specs.declared.fault.EngineFault.{EngineFault}
-use Rattle.buckfleet_engine.specs.declared.fault.EngineFault.TheVariants.{Journal, Replay, Memory}
-use Rattle.buckfleet_engine.specs.run.Reading.{IsAccepted, IsAptFault, IsFileFault, ReadsApt, Says}
-use Rattle.buckfleet_engine.specs.text.Report.{IsReport}
-
--- LAWFUL <postings>
-abbrev pub lawful_line : ℕ → List ℕ
-lawful_line postings = line_of (codes "LAWFUL") (postings ∷ [])
-
--- the journal's file, which is file 1, can't be read or is refused, or memory ran out
-abbrev pub IsJournalFault : Option (List ℕ) → EngineFault → Type 0
-IsJournalFault journal fault = IsFileFault 1 Journal journal_of journal fault
-
--- a history isn't lawful, or memory ran out
-abbrev pub IsUnlawful : HistoryParts → EngineFault → Type 0
-IsUnlawful h fault = (fault ≡ Memory) ⊎ ((why : _) × (fault ≡ Replay why) × IsFirstFault h why)
+use Rattle.buck_book_journal.specs.judging.Replay.{history_of}
+use Rattle.buckfleet_engine_files.specs.declared.fault.EngineFault.{EngineFault}
+use Rattle.buckfleet_engine_files.specs.Reading.{IsAccepted, IsAptFault, ReadsApt, Says}
+use Rattle.buckfleet_engine_text.specs.Report.{IsReport}
+use Rattle.buckfleet_engine_files.specs.Checking.{IsJournalFault, IsUnlawful, IsLawfulLine}
 
 -- what is written of a journal that is lawful for an instruction
 abbrev pub OfLawful : Type 1
 OfLawful = InstructionParts → JournalParts → List ℕ → Type 0
-
--- its line, with the number of its postings
-abbrev pub IsLawfulLine : InstructionParts → JournalParts → List ℕ → Type 0
-IsLawfulLine i journal text = text ≡ lawful_line (length journal.entries)
 
 -- the report of its history
 abbrev pub IsJournalReport : InstructionParts → JournalParts → List ℕ → Type 0

@@ -1,15 +1,15 @@
 -- How a whole run ends: what is opened, what is written, and what is reported of it.
-use Rattle.std.specs.Prelude.{◌≡◌, ◌≤◌, ℕ, List, length, take, Option, Result, Ok, Err}
-use Rattle.std.specs.Io.KnownBytes.{Appends, Keeps}
-use Rattle.buckfleet_engine.specs.declared.fault.EngineFault.{EngineFault}
+use Rattle.std.specs.Prelude.{◌≡◌, ℕ, List, Option, Result, Ok, Err}
+use Rattle.std.specs.Io.KnownBytes.{Keeps}
+use Rattle.buckfleet_engine_files.specs.declared.fault.EngineFault.{EngineFault}
 use Rattle.buckfleet_engine.specs.declared.run.serving.Task.{Task}
 use Rattle.buckfleet_engine.specs.declared.run.serving.Task.TheVariants.{Bare, Report}
 use Rattle.buckfleet_engine.specs.run.Bucking.{AnswersBare}
 use Rattle.buckfleet_engine.specs.run.Checking.{AnswersJournal, IsJournalReport}
-use Rattle.buckfleet_engine.specs.run.Reading.{apt_with}
-use Rattle.buckfleet_engine.specs.Faults.{status_of, fault_line}
-use Rattle.buckfleet_engine.specs.run.Opening.{AnswersOpening}
-use Rattle.buckfleet_engine.specs.text.Written.{WritesText}
+use Rattle.buckfleet_engine_files.specs.Reading.{apt_with}
+use Rattle.buckfleet_engine_files.specs.Faults.{status_of, fault_line}
+use Rattle.buckfleet_engine_files.specs.Opening.{AnswersOpening}
+use Rattle.buckfleet_engine_files.specs.Written.{WritesText, AppendsFirst}
 
 -- what is answered to two files, as far as their bytes are known
 abbrev pub AnswersTwo : Type 1
@@ -41,10 +41,6 @@ RunsTask opens held start end input (Report apt journal settings) old new outcom
 abbrev pub status_after : Result (Unit {0}) EngineFault → ℕ
 status_after (Ok _) = 0
 status_after (Err fault) = status_of fault
-
--- first bytes of a text were written: all of it, if the writer took them
-abbrev pub AppendsFirst : Option (List ℕ) → Option (List ℕ) → List ℕ → Type 0
-AppendsFirst old new text = (k : ℕ) × (k ≤ length text) × Appends old new (take k text)
 
 -- nothing is said of a run that went well, and of a fault its line
 abbrev pub TellsOutcome : Option (List ℕ) → Option (List ℕ) → Result (Unit {0}) EngineFault → Type 0

@@ -6,13 +6,12 @@ ghost use Rattle.buck_fleet.specs.Closed.{IsOneHistory};
 ghost use Rattle.buckfleet_engine.specs.fleet.Running.{IsCuttingFault};
 ghost use Rattle.buckfleet_engine.specs.inner.Fleet.{HasCutLists};
 
-use crate::fault::EngineFault;
-use crate::run::onlooker::Onlooker;
 use buck_apt::Instruction;
 use buck_book_postings::{MOST_POSTINGS, Plan};
 use buck_fleet::{Closed, Fleet, Gate, OpenFault, RunFault, Seat, run_fleet};
 use buck_rule::{Rule, Standing};
 use buck_stem::Stem;
+use buckfleet_engine_files::{EngineFault, Onlooker};
 use std::alloc::Global;
 use std::marker::Brand;
 use std::sync::ledger::{Blank, Ledger};

@@ -4,15 +4,13 @@ ghost use Rattle.std.specs.Result.{IsErrAnd};
 ghost use Rattle.buck_apt.specs.Apt.{apt_of};
 ghost use Rattle.buck_stem.specs.file.Stm.{stm_of};
 ghost use Rattle.buck_book_postings.specs.Replies.{stems_of};
-ghost use Rattle.buckfleet_engine.specs.declared.fault.EngineFault.TheVariants.{Full, Seats};
-ghost use Rattle.buckfleet_engine.specs.run.Reading.{IfStopped, IsAccepted, IsStmFault, Says, apt_with};
+ghost use Rattle.buckfleet_engine_files.specs.declared.fault.EngineFault.TheVariants.{Full, Seats};
+ghost use Rattle.buckfleet_engine_files.specs.Reading.{IfStopped, IsAccepted, IsStmFault, Says, apt_with};
 ghost use Rattle.buckfleet_engine.specs.fleet.Running.{AreListsOf, AreNoSeats, IsFleetFault, IsListFault};
 
-use crate::fault::EngineFault;
-use crate::run::reading::{read_instruction, read_stems};
-use crate::run::workers::Workers;
 use buck_apt::{Instruction, Settings};
 use buck_stem::Stem;
+use buckfleet_engine_files::{EngineFault, Workers, read_instruction, read_stems};
 use std::alloc::Global;
 use std::io;
 use std::sync::Arc;
@@ -119,7 +117,7 @@ pub fn read_input<T: Workers, R: io::Read>(
 }
 
 /// [`read_input`], with a run's numbers in the place of the instruction's own, by which it is read and refused.
-#[tactic(auto, using(crate::proofs::Numbers::says_with))]
+#[tactic(auto, using(buckfleet_engine_files::proofs::Numbers::says_with))]
 pub(crate) fn read_input_with<T: Workers, R: io::Read>(
     workers: &T,
     alloc: Global,

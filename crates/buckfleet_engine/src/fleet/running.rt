@@ -3,21 +3,19 @@ ghost use Rattle.std.specs.Prelude.{◌≡◌, ◌≢◌, length, map, drop, IfO
 ghost use Rattle.std.specs.Result.{IsErrAnd};
 ghost use Rattle.buck_apt.specs.Apt.{apt_of};
 ghost use Rattle.buck_rule.specs.Stored.{AllAnswer};
-ghost use Rattle.buckfleet_engine.specs.declared.fault.EngineFault.TheVariants.{Seats, Write};
+ghost use Rattle.buckfleet_engine_files.specs.declared.fault.EngineFault.TheVariants.{Seats, Write};
 ghost use Rattle.buckfleet_engine.specs.declared.fleet.serving.Order.TheVariants.{AtOnce};
-ghost use Rattle.buckfleet_engine.specs.run.Reading.{IfStopped, apt_with};
-ghost use Rattle.buckfleet_engine.specs.fleet.Lent.{of_lent};
+ghost use Rattle.buckfleet_engine_files.specs.Reading.{IfStopped, apt_with};
+ghost use Rattle.buckfleet_engine_files.specs.Lent.{of_lent};
 ghost use Rattle.buckfleet_engine.specs.fleet.Running.{AreNoSeats, IsFleetFault, IsFleetRun, IsHarvest};
 
-use crate::fault::EngineFault;
 use crate::fleet::cutting::cut_lists;
 use crate::fleet::lists::{Input, number_of_stems, read_input_with};
 use crate::fleet::writing::{write_journal_and_report, write_report};
-use crate::run::onlooker::{Nobody, Onlooker};
-use crate::run::workers::SeveralThreads;
 use buck_apt::Settings;
 use buck_fleet::Closed;
 use buck_rule::{Rule, Standing};
+use buckfleet_engine_files::{EngineFault, Nobody, Onlooker, SeveralThreads};
 use std::alloc::Global;
 use std::io;
 use std::sync::Wait;
@@ -57,7 +55,7 @@ pub(crate) fn cut_files<
 
 /// Reads an instruction file and stem files, cuts the stems of the k-th stem file by harvester k of a fleet, each in a
 /// thread of its own and in file order, and writes the fleet's journal, if one is asked for, and then its report;
-/// see [`report_text`](crate::report_text). Nothing is written before both texts are there.
+/// see [`report_text`](buckfleet_engine_text::report_text). Nothing is written before both texts are there.
 ///
 /// The instruction file is file 0, the k-th stem file is file k; each is read, and refused if it must be, before the
 /// next. `Seats` comes if there are not 1 to 64 stem files, before anything is read, `Read` if a reader fails or

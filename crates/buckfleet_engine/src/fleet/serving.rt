@@ -2,14 +2,12 @@
 ghost use Rattle.std.specs.Prelude.{◌≡◌};
 ghost use Rattle.buckfleet_engine.specs.fleet.Serving.{RunsFleet};
 
-use crate::fault::EngineFault;
 use crate::fleet::running::cut_files;
 use crate::fleet::turning::cut_files_in_turn;
 use crate::fleet::writing::write_made;
-use crate::run::onlooker::Onlooker;
-use crate::run::opening::{Make, Open, make_journal, open_inputs};
 use buck_apt::Settings;
 use buck_rule::{NamedRule, Rule, Standing};
+use buckfleet_engine_files::{EngineFault, Make, Onlooker, Open, make_journal, open_inputs};
 use std::alloc::Global;
 use std::io;
 use std::sync::Wait;
@@ -42,7 +40,7 @@ pub struct FleetTask<'a> {
 }
 
 /// Runs a fleet over the files of a task, by its rule. The onlooker is shown what was read and, while the fleet works,
-/// how far it is; [`Nobody`](crate::Nobody) is one that doesn't ask.
+/// how far it is; [`Nobody`](buckfleet_engine_files::Nobody) is one that doesn't ask.
 ///
 /// The input files are opened in the order of the words before one of them is read; one that can't be opened is `Read`
 /// with its number. Then the file of the journal is made, if one is wanted; if it can't be made, that is `Write`.

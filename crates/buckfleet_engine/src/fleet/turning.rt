@@ -6,24 +6,22 @@ ghost use Rattle.buck_apt.specs.Apt.{apt_of};
 ghost use Rattle.buck_rule.specs.Stored.{Answers};
 ghost use Rattle.buck_book_postings.specs.Pricing.{AreSheetsBy};
 ghost use Rattle.buck_fleet_round_robin.specs.Turn.{AreInTurn, stems_in_all};
-ghost use Rattle.buckfleet_engine.specs.declared.fault.EngineFault.TheVariants.{Full, Seats, Write};
+ghost use Rattle.buckfleet_engine_files.specs.declared.fault.EngineFault.TheVariants.{Full, Seats, Write};
 ghost use Rattle.buckfleet_engine.specs.declared.fleet.serving.Order.TheVariants.{InTurn};
-ghost use Rattle.buckfleet_engine.specs.run.Reading.{IfStopped, apt_with};
-ghost use Rattle.buckfleet_engine.specs.fleet.Lent.{of_lent};
+ghost use Rattle.buckfleet_engine_files.specs.Reading.{IfStopped, apt_with};
+ghost use Rattle.buckfleet_engine_files.specs.Lent.{of_lent};
 ghost use Rattle.buckfleet_engine.specs.fleet.Running.{AreNoSeats, HaveTooMany, IsCuttingFault, IsFleetFault, IsFleetRun, IsHarvest};
 ghost use Rattle.buckfleet_engine.specs.inner.Fleet.{HasCutLists};
 ghost use Rattle.buck_book_postings.specs.declared.posting.TheConstants.{MOST_POSTINGS};
 
-use crate::fault::EngineFault;
 use crate::fleet::lists::{Input, number_of_stems, read_input_with};
 use crate::fleet::writing::{write_journal_and_report, write_report};
-use crate::run::onlooker::{Nobody, Onlooker};
-use crate::run::workers::OneThread;
 use buck_apt::{Instruction, Settings};
 use buck_book_postings::{CutFault, Parts};
 use buck_fleet_round_robin::cut_in_turn;
 use buck_rule::{Rule, Standing};
 use buck_stem::Stem;
+use buckfleet_engine_files::{EngineFault, Nobody, OneThread, Onlooker};
 use std::alloc::Global;
 use std::io;
 use std::sync::Arc;
@@ -79,8 +77,8 @@ pub(crate) fn cut_files_in_turn<F: Fn(&Standing) -> u64 + Drop, R: io::Read, O: 
 }
 
 /// Reads an instruction file and stem files, cuts the stems of the k-th stem file by harvester k, in turn, and writes
-/// the journal, if one is asked for, and then the report; see [`report_text`](crate::report_text). Nothing is
-/// written before both texts are there.
+/// the journal, if one is asked for, and then the report; see [`report_text`](buckfleet_engine_text::report_text).
+/// Nothing is written before both texts are there.
 ///
 /// In each round harvester k cuts the next stem of the k-th stem file, under the sheet that is then in force; a
 /// harvester with none left is skipped. There is one thread, and nothing waits: the same files always give the same

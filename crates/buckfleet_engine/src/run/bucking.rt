@@ -3,19 +3,18 @@ ghost use Rattle.std.specs.Prelude.{◌≡◌, ◌≢◌, IfErr};
 ghost use Rattle.std.specs.List.{before_first, after_first};
 ghost use Rattle.bstr.specs.Find.{IsFirstByte, is_byte};
 ghost use Rattle.buck_record.specs.Reading.{listed};
-ghost use Rattle.buckfleet_engine.specs.declared.fault.EngineFault.TheVariants.{Write};
-ghost use Rattle.buckfleet_engine.specs.text.Written.{WritesText};
-ghost use Rattle.buckfleet_engine.specs.run.Reading.{IfStopped};
+ghost use Rattle.buckfleet_engine_files.specs.declared.fault.EngineFault.TheVariants.{Write};
+ghost use Rattle.buckfleet_engine_files.specs.Written.{WritesText};
+ghost use Rattle.buckfleet_engine_files.specs.Reading.{IfStopped};
 ghost use Rattle.buckfleet_engine.specs.run.Bucking.{is_bar, AnswersBare, AnswersBuck};
 ghost use Rattle.buckfleet_engine.specs.inner.Reading.{AnswersBytes};
 
-use crate::fault::EngineFault;
-use crate::run::onlooker::{Nobody, Onlooker};
-use crate::run::reading::{instruction_in, read_file, read_instruction, read_stems, stems_in};
-use crate::run::workers::OneThread;
-use crate::text::bucking::buck_text;
-use crate::text::writing::write_text;
 use bstr::ByteSlice;
+use buckfleet_engine_files::{
+    EngineFault, Nobody, OneThread, Onlooker, instruction_in, read_file, read_instruction,
+    read_stems, stems_in, write_text,
+};
+use buckfleet_engine_text::buck_text;
 use std::alloc::Global;
 use std::io;
 use std::slice::from_ref;

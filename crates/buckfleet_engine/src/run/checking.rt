@@ -3,27 +3,18 @@ ghost use Rattle.std.specs.Prelude.{◌≡◌, ◌≢◌, OnOk, IfOk, IfErr};
 ghost use Rattle.buck_record.specs.Reading.{listed};
 ghost use Rattle.buck_book_postings.specs.History.{IsLawful};
 ghost use Rattle.buck_book_journal.specs.judging.Replay.{history_of, IsFirstFault};
-ghost use Rattle.buckfleet_engine.specs.declared.fault.EngineFault.TheVariants.{Write};
-ghost use Rattle.buckfleet_engine.specs.run.Checking.{AnswersCheck, AnswersReplay, IsLawfulLine, lawful_line};
-ghost use Rattle.buckfleet_engine.specs.run.Reading.{IfStopped};
-ghost use Rattle.buckfleet_engine.specs.text.Written.{WritesText};
+ghost use Rattle.buckfleet_engine_files.specs.declared.fault.EngineFault.TheVariants.{Write};
+ghost use Rattle.buckfleet_engine.specs.run.Checking.{AnswersCheck, AnswersReplay};
+ghost use Rattle.buckfleet_engine_files.specs.Checking.{IsLawfulLine};
+ghost use Rattle.buckfleet_engine_files.specs.Reading.{IfStopped};
+ghost use Rattle.buckfleet_engine_files.specs.Written.{WritesText};
 
-use crate::fault::EngineFault;
-use crate::run::both::{Both, read_own, replay_both, unlawful};
-use crate::text::writing::write_text;
 use buck_book_journal::ReplayFault;
-use buck_record::{Memory, put_line};
+use buckfleet_engine_files::{
+    Both, EngineFault, lawful_text, read_own, replay_both, unlawful, write_text,
+};
 use std::alloc::Global;
 use std::io;
-
-/// The line of a lawful journal of so many postings.
-pub(crate) fn lawful_text(alloc: Global, postings: usize) -> Result<Vec<u8>, Memory>
-    ensures { IfOk result (λ text. text.items ≡ lawful_line postings) }
-{
-    let mut out = Vec::new(alloc);
-    put_line(&mut out, b"LAWFUL", &[postings as u128])?;
-    Ok(out)
-}
 
 /// The line of a journal, by what came of its replay.
 fn text_of_both(

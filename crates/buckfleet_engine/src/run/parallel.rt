@@ -1,19 +1,17 @@
 //! `run_buck_in_parts`: a bucking whose stems are read and cut in several threads at once.
 ghost use Rattle.std.specs.Prelude.{◌≡◌, ◌≢◌, IfErr};
-ghost use Rattle.buckfleet_engine.specs.declared.fault.EngineFault.TheVariants.{Write};
-ghost use Rattle.buckfleet_engine.specs.text.Written.{WritesText};
-ghost use Rattle.buckfleet_engine.specs.run.Reading.{IfStopped};
+ghost use Rattle.buckfleet_engine_files.specs.declared.fault.EngineFault.TheVariants.{Write};
+ghost use Rattle.buckfleet_engine_files.specs.Written.{WritesText};
+ghost use Rattle.buckfleet_engine_files.specs.Reading.{IfStopped};
 ghost use Rattle.buckfleet_engine.specs.run.Bucking.{AnswersBuck};
 ghost use Rattle.buckfleet_engine.specs.run.Serving.{RunsFiles};
 ghost use Rattle.buckfleet_engine.specs.inner.Text.{joined_in};
 
-use crate::fault::EngineFault;
-use crate::run::onlooker::Onlooker;
-use crate::run::opening::{Open, open_both};
-use crate::run::reading::{read_instruction, read_stems};
-use crate::run::workers::SeveralThreads;
-use crate::text::bucking::buck_text_in_parts;
-use crate::text::writing::write_pieces;
+use buckfleet_engine_files::{
+    EngineFault, Onlooker, Open, SeveralThreads, open_both, read_instruction, read_stems,
+    write_pieces,
+};
+use buckfleet_engine_text::buck_text_in_parts;
 use std::alloc::Global;
 use std::io;
 use std::slice::from_ref;

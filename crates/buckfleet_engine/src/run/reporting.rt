@@ -5,23 +5,20 @@ ghost use Rattle.buck_book_postings.specs.Walk.{walk_of};
 ghost use Rattle.buck_book_postings.specs.History.{IsLawful, in_force};
 ghost use Rattle.buck_apt.specs.Instruction.{classes};
 ghost use Rattle.buck_book_journal.specs.judging.Replay.{history_of};
-ghost use Rattle.buckfleet_engine.specs.declared.fault.EngineFault.TheVariants.{Write};
+ghost use Rattle.buckfleet_engine_files.specs.declared.fault.EngineFault.TheVariants.{Write};
 ghost use Rattle.buckfleet_engine.specs.run.Checking.{AnswersJournal, AnswersReplay, AnswersReport, IsJournalReport};
-ghost use Rattle.buckfleet_engine.specs.run.Reading.{IfStopped, apt_with};
-ghost use Rattle.buckfleet_engine.specs.text.Written.{WritesText};
+ghost use Rattle.buckfleet_engine_files.specs.Reading.{IfStopped, apt_with};
+ghost use Rattle.buckfleet_engine_files.specs.Written.{WritesText};
 ghost use Rattle.buck_book_postings.specs.declared.posting.TheConstants.{MOST_POSTINGS};
 
-use crate::fault::{EngineFault, TextFault};
-use crate::run::both::read_postings;
-use crate::run::onlooker::{Nobody, Onlooker};
-use crate::run::reading::read_instruction_with;
-use crate::run::workers::OneThread;
-use crate::text::report::{Ending, report_with};
-use crate::text::writing::write_text;
 use buck_apt::{Instruction, Settings};
 use buck_book_journal::{Journal, ReplayFault, replay_to_end};
 use buck_book_postings::Walk;
 use buck_stem::Stem;
+use buckfleet_engine_files::{
+    EngineFault, Nobody, OneThread, Onlooker, read_instruction_with, read_postings, write_text,
+};
+use buckfleet_engine_text::{Ending, TextFault, report_with};
 use std::alloc::Global;
 use std::io;
 use std::sync::Arc;
@@ -115,7 +112,7 @@ fn text_of_own_report<R: io::Read>(
 
 /// Reads an instruction file and then a journal, as [`run_check`](crate::run_check) does, and writes the report of the
 /// journal's history if that is lawful, as the fleet printed it that wrote the journal; see
-/// [`report_text`](crate::report_text). Each fault is that of [`run_check`](crate::run_check).
+/// [`report_text`](buckfleet_engine_text::report_text). Each fault is that of [`run_check`](crate::run_check).
 pub fn run_report<R: io::Read, W: io::Write>(
     alloc: Global,
     apt: &mut R,

@@ -1,21 +1,21 @@
 //! Whole runs of the program, and how the program ends after one.
 ghost use Rattle.std.specs.Prelude.{◌≡◌, true, false, Result};
 ghost use Rattle.std.specs.Io.KnownBytes.{Keeps};
-ghost use Rattle.buckfleet_engine.specs.declared.fault.EngineFault.{EngineFault};
-ghost use Rattle.buckfleet_engine.specs.text.Written.{IsWritten, WritesText};
-ghost use Rattle.buckfleet_engine.specs.Faults.{fault_line};
+ghost use Rattle.buckfleet_engine_files.specs.declared.fault.EngineFault.{EngineFault};
+ghost use Rattle.buckfleet_engine_files.specs.Written.{IsWritten, WritesText};
+ghost use Rattle.buckfleet_engine_files.specs.Faults.{fault_line};
 ghost use Rattle.buckfleet_engine.specs.run.Checking.{AnswersJournal, IsJournalReport};
 ghost use Rattle.buckfleet_engine.specs.run.Bucking.{AnswersBare};
-ghost use Rattle.buckfleet_engine.specs.run.Reading.{apt_with};
-ghost use Rattle.buckfleet_engine.specs.run.Serving.{AppendsFirst, RunsTask, TellsOutcome, status_after};
+ghost use Rattle.buckfleet_engine_files.specs.Reading.{apt_with};
+ghost use Rattle.buckfleet_engine_files.specs.Written.{AppendsFirst};
+ghost use Rattle.buckfleet_engine.specs.run.Serving.{RunsTask, TellsOutcome, status_after};
 
-use crate::fault::{EngineFault, status};
 use crate::run::bucking::text_of_one;
-use crate::run::onlooker::Onlooker;
-use crate::run::opening::{Open, open_both};
 use crate::run::reporting::run_report_with;
-use crate::text::writing::{write_fault, write_text};
 use buck_apt::Settings;
+use buckfleet_engine_files::{
+    EngineFault, Onlooker, Open, open_both, status, write_fault, write_text,
+};
 use std::alloc::Global;
 use std::io;
 
@@ -83,7 +83,7 @@ pub fn serve<L: Onlooker, R: io::Read, O: Open, W: io::Write>(
 }
 
 /// Writes first bytes of the line of a fault: all of it, if the writer takes them.
-#[tactic(auto, using(crate::proofs::WrittenLemmas::first_told))]
+#[tactic(auto, using(buckfleet_engine_files::proofs::WrittenLemmas::first_told))]
 fn tell_fault<E: io::Write>(errors: &mut E, fault: &EngineFault)
     ensures { AppendsFirst (E.contents errors.old) (E.contents errors.new) (fault_line fault.now) }
 {
@@ -121,7 +121,7 @@ pub fn conclude<E: io::Write>(errors: &mut E, outcome: &Result<(), EngineFault>)
 
 /// Says a text about the command line: what is wrong with the words on `errors`, with status 2, and what was asked
 /// for, as help, on `output`, which ends as a run does.
-#[tactic(auto, using(crate::proofs::WrittenLemmas::first_written))]
+#[tactic(auto, using(buckfleet_engine_files::proofs::WrittenLemmas::first_written))]
 pub fn explain<W: io::Write, E: io::Write>(
     output: &mut W,
     errors: &mut E,

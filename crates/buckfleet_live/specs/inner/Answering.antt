@@ -3,8 +3,8 @@ use Rattle.std.specs.Prelude.{◌⊎◌, ℕ, List, Result, Ok, Err}
 use Rattle.std.specs.declared.vec.Vec.{Vec}
 use Rattle.std.specs.declared.alloc.Global.{Global}
 use Rattle.buck_book_postings.specs.History.{HistoryParts}
-use Rattle.buckfleet_engine.specs.declared.fault.EngineFault.{EngineFault}
-use Rattle.buckfleet_engine.specs.Faults.{fault_line, memory_line}
+use Rattle.buckfleet_engine_files.specs.declared.fault.EngineFault.{EngineFault}
+use Rattle.buckfleet_engine_files.specs.Faults.{fault_line, memory_line}
 use Rattle.buckfleet_live.specs.Answers.{AnswersAsked, SaysOnly}
 use Rattle.buckfleet_live.specs.declared.request.Asked.{Asked}
 

@@ -2,9 +2,9 @@
 use Rattle.std.specs.Prelude.{◌≡◌, ℕ, List, Option, Result, Ok, Err}
 use Rattle.std.specs.Io.KnownBytes.{Appends}
 use Rattle.buck_book_postings.specs.History.{HistoryParts}
-use Rattle.buckfleet_engine.specs.declared.fault.EngineFault.{EngineFault}
-use Rattle.buckfleet_engine.specs.declared.fault.EngineFault.TheVariants.{Write}
-use Rattle.buckfleet_engine.specs.run.Serving.{AppendsFirst}
+use Rattle.buckfleet_engine_files.specs.declared.fault.EngineFault.{EngineFault}
+use Rattle.buckfleet_engine_files.specs.declared.fault.EngineFault.TheVariants.{Write}
+use Rattle.buckfleet_engine_files.specs.Written.{AppendsFirst}
 use Rattle.buckfleet_live.specs.Live.{IsLiveRun}
 
 -- an answer was written, or first bytes of it

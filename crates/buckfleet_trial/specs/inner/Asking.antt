@@ -10,7 +10,7 @@ use Rattle.buck_stem.specs.declared.stem.Stem.{Stem}
 use Rattle.buck_rule.specs.declared.named.NamedRule.{NamedRule}
 use Rattle.buck_book_postings.specs.History.{HistoryParts}
 use Rattle.buck_book_postings.specs.Posting.{opening_targets}
-use Rattle.buckfleet_engine.specs.declared.fault.EngineFault.{EngineFault}
+use Rattle.buckfleet_engine_files.specs.declared.fault.EngineFault.{EngineFault}
 use Rattle.buckfleet_trial_sweep.specs.Runs.{HasCut, IsStop}
 use Rattle.buckfleet_trial.specs.declared.asking.Asking.{Asking}
 use Rattle.buckfleet_trial.specs.declared.outcome.Outcome.{Outcome}

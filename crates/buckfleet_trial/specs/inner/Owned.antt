@@ -7,7 +7,7 @@ use Rattle.std.specs.declared.alloc.Global.{Global}
 use Rattle.buck_apt.specs.Instruction.{InstructionParts}
 use Rattle.buck_stem.specs.declared.stem.Stem.{Stem}
 use Rattle.buck_book_postings.specs.declared.posting.Posting.{Posting}
-use Rattle.buckfleet_engine.specs.declared.fault.EngineFault.{EngineFault}
+use Rattle.buckfleet_engine_files.specs.declared.fault.EngineFault.{EngineFault}
 use Rattle.buckfleet_proceeds.specs.declared.appraisal.Appraisal.{Appraisal}
 use Rattle.buckfleet_proceeds.specs.Appraisal.{IsAppraisal}
 use Rattle.buckfleet_trial_sweep.specs.declared.combination.Combination.{Combination}

@@ -9,7 +9,7 @@ use Rattle.buck_book_journal.specs.reading.Journal.{JournalParts}
 use Rattle.buck_fleet_round_robin.specs.Turn.{StemList}
 use Rattle.buckfleet_trial_sweep.specs.declared.combination.Combination.{Combination}
 use Rattle.buck_page_figures.specs.declared.figures.Figures.{Figures}
-use Rattle.buckfleet_engine.specs.declared.fault.EngineFault.{EngineFault}
+use Rattle.buckfleet_engine_files.specs.declared.fault.EngineFault.{EngineFault}
 use Rattle.buck_rule.specs.declared.named.NamedRule.{NamedRule}
 use Rattle.buck_rule.specs.Named.{rule_name}
 use Rattle.buckfleet_trial_sweep.specs.Table.{apart_of, cells, head_line, rate_of, volumes_of, wholes_of}

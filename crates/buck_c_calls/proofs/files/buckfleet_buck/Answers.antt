@@ -1,6 +1,6 @@
 use Rattle.std.proofs.Common.{◌≡◌, ℕ, List, Some, Ok, Err, inl, inr, refl}
 use Rattle.buckfleet_engine.specs.run.Bucking.{AnswersBuck}
-use Rattle.buckfleet_engine.specs.declared.fault.EngineFault.{EngineFault}
+use Rattle.buckfleet_engine_files.specs.declared.fault.EngineFault.{EngineFault}
 use Rattle.buck_c_calls.proofs.Told.{told, or_told}
 use Rattle.buck_c_calls.proofs.files.buckfleet_buck.Goals as goal
 

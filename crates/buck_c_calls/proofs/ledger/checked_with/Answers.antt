@@ -1,7 +1,7 @@
 use Rattle.std.proofs.Common.{rules, Some, List, map, Bor, subst}
-use Rattle.buckfleet_engine.specs.run.Reading.{apt_with}
-use Rattle.buckfleet_engine.specs.text.Written.{WritesText}
-use Rattle.buckfleet_engine.specs.tie.Answers.{AnswersCheckWith}
+use Rattle.buckfleet_engine_files.specs.Reading.{apt_with}
+use Rattle.buckfleet_engine_files.specs.Written.{WritesText}
+use Rattle.buckfleet_engine_cross_check.specs.Answers.{AnswersCheckWith}
 use Rattle.buck_c_calls.specs.Asked.{IsCrossCheck}
 use Rattle.buck_c_calls.proofs.Ran.{in_terms_ran, ran, unhanded}
 use Rattle.buck_c_calls.proofs.ledger.checked_with.Goals as goal

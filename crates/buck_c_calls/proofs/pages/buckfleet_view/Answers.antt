@@ -1,5 +1,5 @@
 use Rattle.std.proofs.Common.{Some, inl, inr, refl}
-use Rattle.buckfleet_engine.specs.run.Viewing.{IsReadFault}
+use Rattle.buckfleet_engine_files.specs.Checking.{IsReadFault}
 use Rattle.buck_c_calls.specs.Pages.{IsPage}
 use Rattle.buck_c_calls.proofs.Told.{told, or_told}
 use Rattle.buck_c_calls.proofs.pages.buckfleet_view.Goals as goal

@@ -1,7 +1,7 @@
 use Rattle.std.proofs.Common.{◌≢◌, rules, ℕ, List, Bor}
-use Rattle.buckfleet_engine.specs.declared.fault.EngineFault.TheVariants.{Write}
-use Rattle.buckfleet_engine.specs.tie.Ties.{FollowsRule}
-use Rattle.buckfleet_engine.proofs.Ruled.{follows_rule}
+use Rattle.buckfleet_engine_files.specs.declared.fault.EngineFault.TheVariants.{Write}
+use Rattle.buckfleet_engine_files.specs.Ruled.{FollowsRule}
+use Rattle.buckfleet_engine_files.proofs.Ruled.{follows_rule}
 use Rattle.buck_c_calls.proofs.Turned.{texts_written, texts_refused}
 use Rattle.buck_c_calls.proofs.turns.texts_by.Goals as goal
 

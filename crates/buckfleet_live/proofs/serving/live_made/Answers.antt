@@ -1,7 +1,7 @@
 use Rattle.buckfleet_live.proofs.Words.{rules, ◌≡◌, ◌∙◌, [], inl, inr, refl, ap, HistoryParts, AnswersLive, KeepsJournal}
 use Rattle.buck_book_postings.proofs.Given.{none_given}
-use Rattle.buckfleet_engine.proofs.Ruled.{follows_rule}
-use Rattle.buckfleet_engine.proofs.Served.{made_so}
+use Rattle.buckfleet_engine_files.proofs.Ruled.{follows_rule}
+use Rattle.buckfleet_engine_files.proofs.Made.{made_so}
 use Rattle.buckfleet_live.proofs.ServedLemmas.{unopened}
 use Rattle.buckfleet_live.proofs.serving.live_made.Goals as goal
 

@@ -2,7 +2,7 @@ use Rattle.std.proofs.Common.{◌∙◌, ◌<◌, ◌++◌, [], codes, length, a
 use Rattle.std.proofs.lemmas.Grind.{common_steps}
 use Rattle.buck_record.specs.writing.Written.{spelled}
 use Rattle.buck_record.specs.writing.Line.{line_of}
-use Rattle.buckfleet_engine.proofs.WrittenLemmas.{stopped, then_written, told}
+use Rattle.buckfleet_engine_files.proofs.WrittenLemmas.{stopped, then_written, told}
 use Rattle.buckfleet_terms_files.proofs.telling.write_line.Goals as goal
 
 pub returns-in_err-write_text : goal.returns-in_err-write_text

@@ -1,5 +1,5 @@
 use Rattle.std.proofs.Common.{[], ◌∷◌}
-use Rattle.buckfleet_engine.proofs.WrittenLemmas.{stopped}
+use Rattle.buckfleet_engine_files.proofs.WrittenLemmas.{stopped}
 use Rattle.buckfleet_terms_files.proofs.telling.write_number.Goals as goal
 
 pub returns-in_err-write_text : goal.returns-in_err-write_text

@@ -1,6 +1,6 @@
 use Rattle.std.proofs.Common.{◌∷◌}
 use Rattle.std.specs.Fmt.{decimal}
-use Rattle.buckfleet_engine.proofs.WrittenLemmas.{part_stopped}
+use Rattle.buckfleet_engine_files.proofs.WrittenLemmas.{part_stopped}
 use Rattle.buckfleet_terms_files.proofs.telling.write_numbers.Goals as goal
 
 pub returns-in_err-write_number : goal.returns-in_err-write_number

@@ -1,5 +1,5 @@
 use Rattle.std.proofs.Common.{inl, inr, refl}
-use Rattle.buckfleet_engine.specs.declared.fault.EngineFault.TheVariants.{Memory}
+use Rattle.buckfleet_engine_files.specs.declared.fault.EngineFault.TheVariants.{Memory}
 use Rattle.buckfleet_trial_sweep.specs.Runs.{IsStop}
 use Rattle.buckfleet_trial.specs.Trial.{IsDrawn}
 use Rattle.buckfleet_trial.proofs.Each.{all_given, one_stopped}

@@ -1,5 +1,5 @@
 use Rattle.std.proofs.Common.{◌∙◌, inl, inr, refl, subst}
-use Rattle.buckfleet_engine.specs.declared.fault.EngineFault.TheVariants.{Memory}
+use Rattle.buckfleet_engine_files.specs.declared.fault.EngineFault.TheVariants.{Memory}
 use Rattle.buckfleet_trial.specs.Trial.{IsTrialOver, starts_of}
 use Rattle.buckfleet_trial.proofs.Ended.{nothing_made, written_over}
 use Rattle.buckfleet_trial.proofs.trial.write_trial.Goals as goal

@@ -1,5 +1,5 @@
 use Rattle.std.proofs.Common.{rules, ◌≡◌, sym}
-use Rattle.buckfleet_engine.proofs.Ruled.{follows_rule}
+use Rattle.buckfleet_engine_files.proofs.Ruled.{follows_rule}
 use Rattle.buckfleet_trial_sweep.proofs.cutting.cut_by_name.Goals as goal
 
 pub returns-in_ok-journal_of-in-Ok-clause-ok : goal.returns-in_ok-journal_of-in-Ok-clause-ok

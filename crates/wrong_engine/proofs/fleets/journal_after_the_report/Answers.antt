@@ -1,7 +1,7 @@
 -- If something of the report is written, the whole journal is.
 use Rattle.std.proofs.Common.{rules, ◌≡◌, length}
 use mathlib.Core.Logic.{inl, inr}
-use Rattle.buckfleet_engine.specs.declared.fault.EngineFault.TheVariants.{Write}
+use Rattle.buckfleet_engine_files.specs.declared.fault.EngineFault.TheVariants.{Write}
 use Rattle.wrong_engine.proofs.Unlike.{journal_written}
 use Rattle.wrong_engine.proofs.fleets.journal_after_the_report.Goals as goal
 

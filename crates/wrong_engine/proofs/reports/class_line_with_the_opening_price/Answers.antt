@@ -1,6 +1,6 @@
 -- The postings and the total are the same, and the lines between them differ.
 use Rattle.std.proofs.Common.{rules, ◌≡◌}
-use Rattle.buckfleet_engine.specs.text.Report.{IsReport}
+use Rattle.buckfleet_engine_text.specs.Report.{IsReport}
 use Rattle.wrong_engine.proofs.Unlike.{unlike_middle}
 use Rattle.wrong_engine.proofs.reports.class_line_with_the_opening_price.Goals as goal
 

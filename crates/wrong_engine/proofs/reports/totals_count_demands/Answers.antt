@@ -1,6 +1,6 @@
 -- The postings and the classes are the same, and the total differs.
 use Rattle.std.proofs.Common.{rules, ◌≡◌}
-use Rattle.buckfleet_engine.specs.text.Report.{IsReport}
+use Rattle.buckfleet_engine_text.specs.Report.{IsReport}
 use Rattle.wrong_engine.proofs.Unlike.{unlike_end}
 use Rattle.wrong_engine.proofs.reports.totals_count_demands.Goals as goal
 

@@ -1,6 +1,6 @@
 -- The total is the same, and the lines before it differ.
 use Rattle.std.proofs.Common.{rules, ◌≡◌}
-use Rattle.buckfleet_engine.specs.text.Bucking.{IsBuckText}
+use Rattle.buckfleet_engine_text.specs.Bucking.{IsBuckText}
 use Rattle.wrong_engine.proofs.Unlike.{unlike_front}
 use Rattle.wrong_engine.proofs.texts.butt_diameter_printed.Goals as goal
 

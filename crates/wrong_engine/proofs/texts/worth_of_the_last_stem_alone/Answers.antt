@@ -1,6 +1,6 @@
 -- The lines of the stems are the same, and the total differs.
 use Rattle.std.proofs.Common.{rules, ◌≡◌}
-use Rattle.buckfleet_engine.specs.text.Bucking.{IsBuckText}
+use Rattle.buckfleet_engine_text.specs.Bucking.{IsBuckText}
 use Rattle.wrong_engine.proofs.Unlike.{unlike_back}
 use Rattle.wrong_engine.proofs.texts.worth_of_the_last_stem_alone.Goals as goal
 

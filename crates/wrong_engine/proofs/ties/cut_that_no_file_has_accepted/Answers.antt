@@ -7,11 +7,11 @@ use Rattle.buck_rule.specs.declared.named.NamedRule.{NamedRule}
 use Rattle.buck_book_postings.proofs.Ends.{true_false}
 use Rattle.buck_book_journal.specs.reading.Journal.{JournalParts, journal_of}
 use Rattle.buck_book_journal.specs.judging.Replay.{history_of}
-use Rattle.buckfleet_engine.specs.declared.fault.EngineFault.{EngineFault}
-use Rattle.buckfleet_engine.specs.run.Reading.{ReadsApt, apt_with}
-use Rattle.buckfleet_engine.specs.text.Written.{WritesText}
-use Rattle.buckfleet_engine.specs.tie.Answers.{AnswersCheckWith}
-use Rattle.buckfleet_engine.specs.tie.Ties.{stems_by}
+use Rattle.buckfleet_engine_files.specs.declared.fault.EngineFault.{EngineFault}
+use Rattle.buckfleet_engine_files.specs.Reading.{ReadsApt, apt_with}
+use Rattle.buckfleet_engine_files.specs.Written.{WritesText}
+use Rattle.buckfleet_engine_cross_check.specs.Answers.{AnswersCheckWith}
+use Rattle.buckfleet_engine_cross_check.specs.Ties.{stems_by}
 use Rattle.wrong_engine.proofs.ties.cut_that_no_file_has_accepted.Goals as goal
 
 no_file : (reads : ReadsApt) (rule : Option NamedRule) (apt journal : List ℕ) (stm old new : Option (List ℕ))

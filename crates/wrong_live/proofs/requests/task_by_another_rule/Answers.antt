@@ -1,5 +1,5 @@
 use Rattle.std.proofs.Common.{rules, ◌≡◌, ◌∙◌, ℕ, List, [], Some, Ok, sym, subst}
-use Rattle.buckfleet_engine.specs.tie.Ties.{FollowsRule}
+use Rattle.buckfleet_engine_files.specs.Ruled.{FollowsRule}
 use Rattle.buck_book_cutter.specs.Cut.{opening}
 use Rattle.buckfleet_live.specs.Live.{IsLiveRun}
 use Rattle.wrong_live.proofs.Ruled.{answered}

@@ -1,5 +1,5 @@
 use Rattle.std.proofs.Common.{◌≡◌, Some, Err, rules}
-use Rattle.buckfleet_engine.specs.declared.fault.EngineFault.TheVariants.{Replay}
+use Rattle.buckfleet_engine_files.specs.declared.fault.EngineFault.TheVariants.{Replay}
 use Rattle.buckfleet_terms_files.specs.declared.fault.TermsFault.TheVariants.{Run}
 use Rattle.wrong_trial.proofs.Journals.{owner_first}
 use Rattle.wrong_trial.proofs.ledgers.journal_told_before_the_owners_instruction.Goals as goal

@@ -1,7 +1,7 @@
 use Rattle.std.proofs.KnownBytes.{Keeps-refl}
 use Rattle.buckfleet_engine.specs.declared.fleet.serving.Order.TheVariants.{AtOnce}
-use Rattle.buckfleet_engine.specs.fleet.Lent.{no_writer, of_writer}
-use Rattle.buckfleet_engine.proofs.Numbers.{own_reads}
+use Rattle.buckfleet_engine_files.specs.Lent.{no_writer, of_writer}
+use Rattle.buckfleet_engine_files.proofs.Numbers.{own_reads}
 use Rattle.buckfleet_engine.proofs.Runs.{no_texts, texts_written}
 use Rattle.buckfleet_engine.proofs.Served.{of_files}
 use Rattle.buckfleet_engine.proofs.fleet.running.run_fleet_files.Goals as goal

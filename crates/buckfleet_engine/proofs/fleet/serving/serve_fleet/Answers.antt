@@ -2,11 +2,12 @@ use Rattle.std.proofs.Common.{rules, refl}
 use Rattle.buckfleet_engine.specs.declared.fleet.serving.Order.TheVariants.{AtOnce, InTurn}
 use Rattle.buckfleet_engine.specs.fleet.Running.{IsFleetRun}
 use Rattle.buckfleet_engine.specs.inner.Fleet.{AreWritten}
-use Rattle.buckfleet_engine.specs.run.Reading.{apt_with}
-use Rattle.buckfleet_engine.specs.tie.Ties.{FollowsRule}
-use Rattle.buckfleet_engine.proofs.Ruled.{follows_rule}
+use Rattle.buckfleet_engine_files.specs.Reading.{apt_with}
+use Rattle.buckfleet_engine_files.specs.Ruled.{FollowsRule}
+use Rattle.buckfleet_engine_files.proofs.Ruled.{follows_rule}
 use Rattle.buckfleet_engine.proofs.Runs.{no_texts, texts_written}
-use Rattle.buckfleet_engine.proofs.Served.{fleet_ran, made_so, nothing_made, of_files}
+use Rattle.buckfleet_engine.proofs.Served.{fleet_ran, of_files}
+use Rattle.buckfleet_engine_files.proofs.Made.{made_so, nothing_made}
 use Rattle.buckfleet_engine.proofs.fleet.serving.serve_fleet.Goals as goal
 
 pub returns-in_err-closed-in-AtOnce : goal.returns-in_err-closed-in-AtOnce

@@ -1,4 +1,4 @@
-use Rattle.buckfleet_engine.proofs.Numbers.{own_reads}
+use Rattle.buckfleet_engine_files.proofs.Numbers.{own_reads}
 use Rattle.buckfleet_engine.proofs.run.reporting.text_of_own_report.Goals as goal
 
 pub returns-clause-answer : goal.returns-clause-answer

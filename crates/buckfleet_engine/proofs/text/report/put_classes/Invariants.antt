@@ -1,9 +1,0 @@
-use Rattle.std.proofs.Common.{◌≡◌, ◌++◌}
-use Rattle.std.specs.List.{flat_map, range_with_len}
-use Rattle.buckfleet_engine.specs.text.Report.{row_lines}
-use Rattle.buckfleet_engine.proofs.text.report.put_classes.Given as goal
-
-abbrev pub invariant-loop-row : goal.invariant-loop-row
-invariant-loop-row l =
-    l.out.items ≡ l.initial.out.items
-    ++ flat_map (λ row. row_lines l.ending l.assortment l.at row) (range_with_len 0 l.row)

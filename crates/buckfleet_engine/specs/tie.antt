@@ -1,4 +1,0 @@
-pub mod Told
-pub mod Ties
-pub mod Answers
-pub mod Serving

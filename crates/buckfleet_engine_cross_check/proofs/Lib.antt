@@ -1,0 +1,3 @@
+pub mod Compared
+pub mod PriceLemmas
+pub mod TieAnswers

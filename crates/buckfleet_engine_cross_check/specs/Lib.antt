@@ -1,0 +1,4 @@
+pub mod Answers
+pub mod Serving
+pub mod Ties
+pub mod inner

@@ -1,0 +1,10 @@
+pub mod LastSheet
+pub mod Lists
+pub mod Made
+pub mod Numbers
+pub mod Opening
+pub mod Ruled
+pub mod Runs
+pub mod Several
+pub mod Statuses
+pub mod WrittenLemmas

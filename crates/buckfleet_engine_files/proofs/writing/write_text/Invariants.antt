@@ -1,0 +1,8 @@
+use Rattle.std.proofs.Common.{◌≤◌, length, take}
+use Rattle.std.specs.Io.KnownBytes.{Appends}
+use Rattle.buckfleet_engine_files.proofs.writing.write_text.Given as goal
+
+abbrev pub invariant-loop : goal.invariant-loop
+invariant-loop g l =
+    Appends (g.W.Write.contents l.initial.writer) (g.W.Write.contents l.writer) (take l.at l.text)
+    × (l.at ≤ length l.text)

@@ -1,0 +1,11 @@
+pub mod Checking
+pub mod Faults
+pub mod Lent
+pub mod Listed
+pub mod Opening
+pub mod Reading
+pub mod Ruled
+pub mod Several
+pub mod Told
+pub mod Written
+pub mod inner

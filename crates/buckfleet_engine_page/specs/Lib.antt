@@ -1,0 +1,4 @@
+pub mod Several
+pub mod Showing
+pub mod Viewing
+pub mod inner

@@ -1,0 +1,2 @@
+pub mod Several
+pub mod View

@@ -1,0 +1,4 @@
+pub mod Determined
+pub mod Endings
+pub mod Reports
+pub mod TextLemmas

@@ -1,0 +1,5 @@
+pub mod Bucking
+pub mod Laws
+pub mod Report
+pub mod Text
+pub mod inner
