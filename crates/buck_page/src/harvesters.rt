@@ -105,26 +105,11 @@ pub(crate) fn write_costs(
     free: &GradeFree,
 ) -> Result<(), Memory> {
     let groups = [
-        Group {
-            head: "Worth",
-            columns: &["without grades"],
-        },
-        Group {
-            head: "Cost of grades",
-            columns: &["units", "in %"],
-        },
-        Group {
-            head: "Worth",
-            columns: &["unsteered"],
-        },
-        Group {
-            head: "Cost of steering",
-            columns: &["units", "in %"],
-        },
-        Group {
-            head: "Worth",
-            columns: &["as cut"],
-        },
+        Group("Worth", &["without grades"]),
+        Group("Cost of grades", &["units", "in %"]),
+        Group("Worth", &["unsteered"]),
+        Group("Cost of steering", &["units", "in %"]),
+        Group("Worth", &["as cut"]),
     ];
     write!(
         out,

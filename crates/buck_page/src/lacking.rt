@@ -67,18 +67,9 @@ pub(crate) fn write_lacking(
         return Ok(());
     }
     let groups = [
-        Group {
-            head: "Logs",
-            columns: &["lacking", "wanted", "as cut", "unsteered"],
-        },
-        Group {
-            head: "Degree",
-            columns: &["cost, points"],
-        },
-        Group {
-            head: "Price",
-            columns: &["now", "base", "change, %"],
-        },
+        Group("Logs", &["lacking", "wanted", "as cut", "unsteered"]),
+        Group("Degree", &["cost, points"]),
+        Group("Price", &["now", "base", "change, %"]),
     ];
     write!(
         out,

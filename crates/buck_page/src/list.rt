@@ -1,12 +1,9 @@
 //! Heads of tables whose columns stand in groups.
 use buck_record::Memory;
 
-/// Columns of a table that have a head together.
+/// The head of some columns of a table together, and that of each.
 #[derive(Clone, Copy)]
-pub(crate) struct Group {
-    pub head: &'static str,
-    pub columns: &'static [&'static str],
-}
+pub(crate) struct Group(pub &'static str, pub &'static [&'static str]);
 
 /// Writes a table down to its first row: what its rows are of, and its columns in their groups.
 pub(crate) fn open_list(
@@ -22,13 +19,13 @@ pub(crate) fn open_list(
         write!(
             out,
             "<th scope=\"colgroup\" colspan=\"{}\">{}</th>",
-            group.columns.len(),
-            group.head
+            group.1.len(),
+            group.0
         )?;
     }
     write!(out, "</tr><tr><th scope=\"col\">{rows}</th>")?;
     for group in groups {
-        for (at, column) in group.columns.iter().enumerate() {
+        for (at, column) in group.1.iter().enumerate() {
             let first = if at == 0 { " class=first" } else { "" };
             write!(out, "<th scope=\"col\"{first}>{column}</th>")?;
         }

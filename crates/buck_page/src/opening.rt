@@ -1,6 +1,6 @@
 //! The head of the page: what was cut, what was checked, and the sums.
+use crate::head::{Files, SIGN};
 use crate::rates::{length_left, steering_rate};
-use buck_page_fault::Files;
 use buck_page_figures::{Figures, Own, Sums};
 use buck_page_text::{Fixed, Grouped, Known, Metres, Millionths, Several, half_up, limit_text};
 use buck_record::Memory;
@@ -114,10 +114,8 @@ fn write_verdict(out: &mut String, figures: &Figures<'_>, journals: usize) -> Re
     let limit = figures.instruction.limit();
     write!(
         out,
-        "<p class=\"verdict\"><svg viewBox=\"0 0 20 20\" width=\"20\" height=\"20\" aria-hidden=\"true\">\
-         <circle cx=\"10\" cy=\"10\" r=\"10\"/><path d=\"M5,10L9,14L15,6\"/></svg>\
-         <span><b>Checked: {}.</b> Every stem was cut for the most worth at the prices then in force, and prices moved \
-         only as targets and logs allow",
+        "<p class=\"verdict\">{SIGN}\"M5,10L9,14L15,6\"/></svg><span><b>Checked: {}.</b> Every stem was cut for the \
+         most worth at the prices then in force, and prices moved only as targets and logs allow",
         Checked(journals)
     )?;
     if limit > 0 {

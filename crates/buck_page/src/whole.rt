@@ -4,14 +4,14 @@ ghost use Rattle.buck_page_figures.specs.Shown.{IsShown};
 use crate::assortment::write_assortment;
 use crate::degrees::write_degrees;
 use crate::harvesters::{write_costs, write_harvesters};
+use crate::head::{Files, PAGE_END, begin_page};
 use crate::lacking::write_lacking;
 use crate::notes::write_notes;
 use crate::opening::write_opening;
+use crate::stems::write_stems;
 use crate::targets::write_targets;
 use crate::wood::write_wood_section;
 use buck_dp::Planner;
-use buck_page_drawings::write_stems;
-use buck_page_fault::{Files, close_head, open_head};
 use buck_page_figures::{Figures, grade_free_of};
 use buck_record::Memory;
 use std::alloc::Global;
@@ -26,14 +26,9 @@ pub fn page(
 ) -> Result<String, Memory>
     requires { IsShown figures.now planner.old }
 {
-    let mut out = String::new(alloc);
-    open_head(&mut out)?;
-    write!(
-        &mut out,
-        "{} stems, {} logs",
-        figures.total.stems, figures.total.logs
-    )?;
-    close_head(&mut out)?;
+    let total = &figures.total;
+    let title = format!(in alloc; "{} stems, {} logs", total.stems, total.logs)?;
+    let mut out = begin_page(alloc, title.as_str())?;
     write_opening(&mut out, figures, files)?;
     write!(&mut out, "\n<main>\n")?;
     write_wood_section(&mut out, figures)?;
@@ -48,6 +43,6 @@ pub fn page(
     }
     write_stems(alloc, &mut out, figures, planner)?;
     write_notes(&mut out, figures)?;
-    write!(&mut out, "\n</main>\n</body>\n</html>\n")?;
+    write!(&mut out, "\n</main>{PAGE_END}")?;
     Ok(out)
 }

@@ -145,22 +145,10 @@ fn write_wood(out: &mut String, wood: &Steered, all: &Steered) -> Result<(), Mem
 /// Writes the section that shows what steering did to the wood.
 pub(crate) fn write_wood_section(out: &mut String, figures: &Figures<'_>) -> Result<(), Memory> {
     let groups = [
-        Group {
-            head: "Logs",
-            columns: &["as cut", "unsteered"],
-        },
-        Group {
-            head: "Volume, m&#179;",
-            columns: &["as cut", "unsteered"],
-        },
-        Group {
-            head: "Share of volume, %",
-            columns: &["as cut", "unsteered", "points"],
-        },
-        Group {
-            head: "Worth at base",
-            columns: &["as cut", "unsteered"],
-        },
+        Group("Logs", &["as cut", "unsteered"]),
+        Group("Volume, m&#179;", &["as cut", "unsteered"]),
+        Group("Share of volume, %", &["as cut", "unsteered", "points"]),
+        Group("Worth at base", &["as cut", "unsteered"]),
     ];
     let assortments = figures.instruction.assortments();
     let cut = figures.assortments.as_slice();

@@ -2,6 +2,7 @@
 use crate::style::STYLE;
 use buck_page_text::Apart;
 use buck_record::Memory;
+use std::alloc::Global;
 use std::fmt;
 
 /// The names of the files, as they were given: the instruction's, and those of the journals in their order.
@@ -27,23 +28,25 @@ impl fmt::Display for Files<'_> {
     }
 }
 
-/// Writes the head of a page up to its title. Its policy lets nothing be loaded, whatever a name says. Refused as
-/// `Memory` alone.
-pub fn open_head(out: &mut String) -> Result<(), Memory> {
-    Ok(write!(
-        out,
+/// Returns what begins a page of this title, down to its heading. Its policy lets nothing be loaded, whatever a name
+/// says.
+pub(crate) fn begin_page(alloc: Global, title: &str) -> Result<String, Memory> {
+    let mut out = String::new(alloc);
+    write!(
+        &mut out,
         "<!DOCTYPE html>\n<html lang=\"en\">\n<head>\n<meta charset=\"utf-8\">\n\
          <meta http-equiv=\"Content-Security-Policy\" content=\"default-src 'none'; style-src 'unsafe-inline'\">\n\
          <meta name=\"viewport\" content=\"width=device-width,initial-scale=1\">\n\
-         <meta name=\"color-scheme\" content=\"light dark\">\n<title>"
-    )?)
+         <meta name=\"color-scheme\" content=\"light dark\">\n<title>{title} &#8211; Gielbrok</title>\n\
+         <style>\n{STYLE}</style>\n</head>\n<body>\n<header><p class=\"over\">Bucking report</p><h1>"
+    )?;
+    Ok(out)
 }
 
-/// Writes the head of a page from its title on. Refused as `Memory` alone.
-pub fn close_head(out: &mut String) -> Result<(), Memory> {
-    Ok(write!(
-        out,
-        " &#8211; Gielbrok</title>\n<style>\n{STYLE}</style>\n</head>\n<body>\n\
-         <header><p class=\"over\">Bucking report</p><h1>"
-    )?)
-}
+/// What ends a page.
+pub(crate) const PAGE_END: &str = "\n</body>\n</html>\n";
+
+/// The sign of a verdict, up to its path.
+pub(crate) const SIGN: &str =
+    "<svg viewBox=\"0 0 20 20\" width=\"20\" height=\"20\" aria-hidden=\"true\">\
+     <circle cx=\"10\" cy=\"10\" r=\"10\"/><path d=";

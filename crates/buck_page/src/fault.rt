@@ -1,12 +1,12 @@
 //! The page of a journal that isn't lawful.
-use crate::head::{Files, close_head, open_head};
-use buck_apt::{Assortment, Instruction};
+use crate::head::{Files, PAGE_END, SIGN, begin_page};
+use buck_apt::Instruction;
 use buck_book_journal::ReplayFault;
 use buck_book_postings::Posting;
-use buck_page_text::{Apart, ClassText, Grouped, class_text};
+use buck_page_text::{Apart, Grouped, class_text};
 use buck_record::{Memory, Numbered};
 use std::alloc::Global;
-use std::fmt;
+use std::slice::from_ref;
 
 /// The posting that a fault is of, if it is of one, and what is wrong with it.
 fn wrong_posting(fault: &ReplayFault) -> Option<(usize, &'static str)> {
@@ -24,27 +24,18 @@ fn wrong_posting(fault: &ReplayFault) -> Option<(usize, &'static str)> {
     }
 }
 
-/// An assortment, and a class of it.
-#[derive(Drop)]
-struct Found<'a> {
-    assortment: &'a Assortment,
-    class: ClassText,
-}
-
-/// The class at a place among all, if there is one.
-fn class_at(instruction: &Instruction, place: usize) -> Option<Found<'_>> {
+/// Writes the class at a place among all, if there is one, behind its assortment.
+fn write_class(out: &mut String, instruction: &Instruction, place: usize) -> Result<(), Memory> {
     let mut rest = place;
     for assortment in instruction.assortments() {
         let classes = assortment.classes();
         if rest < classes {
-            return Some(Found {
-                assortment,
-                class: class_text(assortment, rest),
-            });
+            let name = Apart(assortment.name());
+            return Ok(write!(out, "{name}, {}", class_text(assortment, rest))?);
         }
         rest -= classes;
     }
-    None
+    Ok(())
 }
 
 /// Writes whose posting it is, and of what.
@@ -85,9 +76,7 @@ fn write_sentence(
                 "In the prices of version {}, that of ",
                 Grouped(u128::from(*version))
             )?;
-            if let Some(found) = class_at(instruction, *class) {
-                write!(out, "{}, {}", Apart(found.assortment.name()), found.class)?;
-            }
+            write_class(out, instruction, *class)?;
             write!(out, ", is out of its bounds after what was cut before.")?;
         }
         _ => {
@@ -101,16 +90,8 @@ fn write_sentence(
     Ok(())
 }
 
-/// A journal by its number, from 1, among so many that are shown together.
-#[derive(Clone, Copy)]
-struct Which {
-    number: usize,
-    of: usize,
-}
-
-/// Writes that a journal isn't lawful, and which one if there are several.
-fn write_heading(out: &mut String, which: Which) -> Result<(), Memory> {
-    let Which { number, of } = which;
+/// Writes that the journal of this number, from 1, isn't lawful, and which one if there are several.
+fn write_heading(out: &mut String, number: usize, of: usize) -> Result<(), Memory> {
     if of > 1 {
         write!(out, "Journal {number} of {of} is not lawful")?;
     } else {
@@ -119,23 +100,15 @@ fn write_heading(out: &mut String, which: Which) -> Result<(), Memory> {
     Ok(())
 }
 
-/// Writes the names of the instruction and of the journal at a place.
-fn write_files(out: &mut String, files: &Files<'_>, at: usize) -> Result<(), Memory> {
-    if let Some(journal) = files.journals.get(at) {
-        write!(
-            out,
-            "<p class=\"files\">Instruction {}, journal {}</p>",
-            Apart(files.instruction),
-            Apart(journal)
-        )?;
-    }
-    Ok(())
-}
-
 /// Writes the fault as the line that `replay` writes.
-fn write_line(out: &mut String, which: Which, fault: &ReplayFault) -> Result<(), Memory> {
-    if which.of > 1 {
-        write!(out, "replay {} fault", which.number)?;
+fn write_line(
+    out: &mut String,
+    number: usize,
+    of: usize,
+    fault: &ReplayFault,
+) -> Result<(), Memory> {
+    if of > 1 {
+        write!(out, "replay {number} fault")?;
     } else {
         write!(out, "replay fault")?;
     }
@@ -155,21 +128,21 @@ pub fn fault_page(
     files: &Files<'_>,
     at: usize,
 ) -> Result<String, Memory> {
-    let which = Which {
-        number: at.saturating_add(1),
-        of: files.journals.len(),
-    };
-    let mut out = String::new(alloc);
-    open_head(&mut out)?;
-    write!(&mut out, "Not lawful")?;
-    close_head(&mut out)?;
-    write_heading(&mut out, which)?;
+    let number = at.saturating_add(1);
+    let of = files.journals.len();
+    let mut out = begin_page(alloc, "Not lawful")?;
+    write_heading(&mut out, number, of)?;
     write!(&mut out, "</h1>")?;
-    write_files(&mut out, files, at)?;
+    if let Some(journal) = files.journals.get(at) {
+        let shown = Files {
+            instruction: files.instruction,
+            journals: from_ref(journal),
+        };
+        write!(&mut out, "{shown}")?;
+    }
     write!(
         &mut out,
-        "<p class=\"verdict bad\"><svg viewBox=\"0 0 20 20\" width=\"20\" height=\"20\" aria-hidden=\"true\">\
-         <circle cx=\"10\" cy=\"10\" r=\"10\"/><path d=\"M6,6L14,14M14,6L6,14\"/></svg><span><b>"
+        "<p class=\"verdict bad\">{SIGN}\"M6,6L14,14M14,6L6,14\"/></svg><span><b>"
     )?;
     write_sentence(&mut out, instruction, postings, fault)?;
     write!(
@@ -177,7 +150,7 @@ pub fn fault_page(
         "</b> This is the first fault in the order of the postings; nothing after it was checked, and no figure of \
          this journal is shown. <code>"
     )?;
-    write_line(&mut out, which, fault)?;
-    write!(&mut out, "</code></span></p></header>\n</body>\n</html>\n")?;
+    write_line(&mut out, number, of, fault)?;
+    write!(&mut out, "</code></span></p></header>{PAGE_END}")?;
     Ok(out)
 }
