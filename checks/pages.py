@@ -18,14 +18,14 @@ import sys
 
 from quick import TOP, crates
 
-# The calls that the headline is about: how a fleet is opened, what its seats are answered, how it is closed; the law.
+# The calls that the headline is about: how a fleet is closed and opened, what its seats are answered; the law.
 HEADLINE = [
+    "buck_fleet::Fleet::close",
     "buck_fleet::Fleet::open",
-    "buck_fleet::Fleet::snapshot",
     "buck_fleet::Fleet::cut",
     "buck_fleet::Fleet::try_commit",
     "buck_fleet::Fleet::retarget",
-    "buck_fleet::Fleet::close",
+    "buck_fleet::Fleet::snapshot",
     "buck_book_postings::laws::prefix_is_lawful",
 ]
 
@@ -76,30 +76,40 @@ For a sceptic: all that must be believed of this repository for [the headline](P
 
 {claim}
 
-First come the clauses of the calls that it is about, then every definition that they lead to, with its file, its lines, and links to the definitions that it names. Nothing here is a body or a proof.
+First come the clauses of the calls that it is about, then every definition that they lead to, with its file, its lines, and links to the definitions that it names. Nothing here is a body or a proof. The page shows {lines} lines of the sources, from {files} files: {clauses} of the heads and clauses of {calls} calls, and {definitions} of definitions. {types} of these are types of the code; if contracts see a type through a view, the page shows the view but not the type's invariant.
 
-The page shows {lines} lines of the sources, from {files} files: {clauses} of the heads and clauses of {calls} calls, and {definitions} of definitions. {types} of these are types of the code; if contracts see a type through a view, the page shows the view but not the type's invariant.
-
-If a comment calls a value valid or lawful, it means the invariant of its type, which the checker enforces: for `Instruction`, `Assortment`, `Stem`, `Sheet` and `Plan` it is `IsInstruction`, `IsAssortment`, `IsStem`, `IsSheet` and `IsPlan`; that of `Parts`, and so of `Closed`, contains `IsLawful`. So a history that `close` refuses is lawful too.
+If a comment calls a value valid or lawful, it means the invariant of its type, which the checker enforces: for `Instruction`, `Assortment`, `Stem`, `Sheet` and `Plan` it is `IsInstruction`, `IsAssortment`, `IsStem`, `IsSheet` and `IsPlan`; that of `Parts`, and so of `Closed`, contains `IsLawful`. So a history that `close` refuses is lawful too, for the instruction that it has. Valid targets are `AreTargets`.
 
 The standard library, `atomic_table` and `boxcar` are not repeated; [PROOFS](PROOFS.md#what-is-assumed) lists what else is assumed, and what is not proved. No clause here constrains a `CutFault`, a `RetargetFault` or a caller's `Gate`, which hears each plan, so they are not shown.
 
+## In plain words
+
+A *posting* is a cut (the logs of one stem) or a demand (new targets). A *sheet* is the price list of a version, and a *period* so many cuts, after which, and after each demand, comes the next sheet. A seat's *kept list* has its answers, each with its position in the history.
+
+If `close` answers Ok (`IsOneHistory`), then:
+
+- *A history of one thread*: the history is lawful (`IsLawful`) for the instruction that the fleet was opened with. Each posting follows from those before it: it has its harvester's next number and the version then in force; a cut is admissible and none is worth more under that version's sheet; a demand has valid targets. There is a sheet for each period end; the first has the base prices, and each later one prices in the relation `Meets` to the targets and counts after that end. By the law, each first part of it is lawful too: one thread could have made it from the empty book.
+- *Each seat's replies, once and in order*: for each harvester, its postings with their positions are its kept list. Each Ok of `cut`, `try_commit` and `retarget` adds one answer to that list (`KeepsOne`), and nothing else adds any (`KeepsNothing`).
+- *Nothing else*: there is one seat for each harvester (`IsCrew`), and the history has as many postings as the kept lists hold together (`total`), so none is of anyone else.
+
+Not promised: that a call succeeds or returns; that two seats' answers stand in the order of the clock; that a sheet's prices are the answers of the fleet's own rule, only that they keep the relation, as base prices always do; that a sheet shown by `snapshot` is one of the history's.
+
 ## Seats of another fleet
 
-`close` doesn't ask that each seat is one of its fleet (`IsSeatIn`), and need not: its condition `parts` rules out every other seat.
+`close` doesn't ask that each seat is one of its fleet (`IsSeatIn`), and need not: a seat of another fleet has another type, and the condition `parts` says that none of its own is missing.
 
-A *ledger* (`std::sync::ledger`) is a fixed number of parts that exist only in proofs; `L` names one, and `L.parts` is its number. A `Blank` is a ledger that isn't in use yet: it has a name of its own, can't be copied, and `open` uses it up. Because `open` requires that this name is `L`'s (`blank`), at most one fleet is ever opened with `L`, and `L.parts` is 64.
+A *ledger* (`std::sync::ledger`) is a fixed number of parts that exist only in proofs; `L` names one, and `L.parts` is how many parts it has. A `Blank` is a ledger that isn't in use yet: it has a name of its own, can't be copied, and `open` uses it up. Because `open` requires that this name is `L`'s (`blank`), at most one fleet is ever opened with `L`, and `L.parts` is 64.
 
 `open` hands out seats that together hold all 64 parts (`AreOpened`). All holders of parts of one ledger hold `L.parts` together (the library guarantees this), and every seat has at least one (an invariant of `Seat`). `close` requires that its seats together hold `L.parts` parts, so they are all the seats that the fleet has. A seat of another fleet has parts of another ledger, and so another type. A seat that is dropped takes its parts with it; its fleet can't be closed.
 
-Of the public calls of `buck_fleet`, only those on this page and `run_fleet` can change a seat. `run_fleet` makes these calls for each seat, in a thread of its own; its clauses (`HaveRun`) aren't on this page.
+Of the public calls of `buck_fleet`, only those on this page and `run_fleet` can make a seat or change its kept list, whose fields are private. `run_fleet` makes these calls for each seat, in a thread of its own; its clauses (`HaveRun`) aren't on this page.
 
 ## How to read it
 
 | Form | Meaning |
 |---|---|
 | `≡`, `≢`, `ℕ` | is equal to, is not equal to, a natural number |
-| `a - b`, `a / b`, `a % b` | 0 if b is greater; rounded down; the remainder, and a if b is 0 |
+| `a - b`, `a / b`, `a % b` | 0 if b is greater; rounded down, 0 if b is 0; the remainder, and a if b is 0. `*`, `/` and `%` go from the left |
 | `A × B`, `A ⊎ B`, `A → B` | A and B (or a pair, with parts `.0` and `.1`); A or B; if A, then B |
 | `(x : A) → B`, `(x : A) × B` | for every x of type A, B; for some x of type A, B |
 | `Unit {{0}}`, `⊥`, `tt` | what always holds; what never holds; the one value of the first |
@@ -109,12 +119,13 @@ Of the public calls of `buck_fleet`, only those on this page and `run_fleet` can
 | `Type 0`, `{{F : Type 0}}` | the type of statements; an argument that is left out when it is clear |
 | `u8` to `u64`, `usize` | numbers of so many bits; natural numbers in definitions |
 | `abbrev`, `unfoldable` | begin a definition; they say when the checker unfolds it, which doesn't affect its meaning |
-| `record` | a tuple with named fields; one that states something holds if all its fields do |
+| `record` | a tuple with named fields; one that states something holds if there are values for all its fields |
 | `«module»` | the name `module`, which is a word of the language |
 | `requires`, `ensures` | a condition on the caller; a clause that holds after the call |
 | `ghost` | of proofs alone, with no effect when the program runs; in a struct also a fact that holds of its values |
 | `Value`, `view` | the type that contracts see in the place of a type, and the function from its fields to that |
-| `x.now`, `x.old`, `x.new` | the value where a clause or an invariant stands; the value of a `&mut` at the beginning of the call, and at its end |
+| `result`, `F`, `L` | what the call answers; the types of the fleet's rule and of its ledger |
+| `x.now`, `x.old`, `x.new` | the value behind a shared borrow; the value of a `&mut` at the beginning of the call, and at its end |
 | `v.items`, `a.value` | the list in a `Vec`; what an `Arc` holds |
 | `opening.Seats`, `posting.Cut` | variants of `OpenFault` and of `Posting` |
 | `slot!(918, 1, 0..=1_000_000)` | an item of a file by number and kind, with its range, whose end is `.high` |
@@ -126,13 +137,13 @@ Of the public calls of `buck_fleet`, only those on this page and `run_fleet` can
 | `Contains xs x`, `IsStrictlyIncreasing xs` | x is an element; each element is above the one before |
 | `count_by p xs`, `sum_by f xs` | how many elements pass p; the sum of f over the elements |
 | `prefix_len p xs`, `suffix_len p xs` | how many elements pass p from the front on; from the end back |
-| `cond b x y` | x if b is true, else y |
+| `cond b x y`, `if b then x else y` | x if b is true, else y |
 | `unwrap_or o d`, `option_or o p`, `option_map f o` | the value of o, else d; o if it has a value, else p; f of the value |
 | `IfOk r P`, `IfErr r P`, `IfSome o P`, `ForSome o P` | if there is such a value, P of it |
 | `IfNone o A`, `ForNone o A` | if there is no value, A |
-| `Shared F A B`, `F.Fn`, `Bor X` | what is known of closures of type F, from A to B; that of the caller's; a borrowed X |
+| `Shared F A B`, `F.Fn`, `Bor X` | what is known of closures of type F, from A to B; what is known of those of type `F`; a borrowed X. `Bor X × Unit {{0}}` is the list of arguments |
 | `g.pre f x`, `g.post f x r` | f may be called with x; r is a possible answer |
-| `Wait`, `Global`, `Arc`, `Vec`, `Option`, `Result` | the right to wait; memory of malloc; as in Rust |
+| `Wait`, `Global`, `Arc`, `Vec`, `Option`, `Result` | the right to wait, without which a call can't; memory of malloc, without which it takes none; as in Rust |
 | `Table`, `Seat<(), u64>`, `table_id` | of `atomic_table`: words that threads share, a thread's place at them (not the `Seat` below), their identity |
 | `boxcar::Vec`, `Pushed`, `Shows v p` | a list that only grows; the proof that something was pushed; p is of the list v |
 
@@ -327,11 +338,17 @@ def in_order(text):
     return list(dict.fromkeys(re.findall(r"[^\s(){},;:→×.λ]+|[A-Za-z_]\w*", text) + words_of(text)))
 
 
-def types_in(lines):
-    """The types that a file declares: for each the lines of its declaration, of its view, and the words to follow."""
+def imported(lines):
+    """The types and constants that a file of the code imports, with the crate of each."""
     rust = {}
     for use in re.findall(r"(?m)^(?:pub )?use ((?:crate|buck(?:fleet)?_\w+)[^;]*);", "\n".join(lines)):
         rust.update({name: use.split("::")[0] for name in re.findall(r"\b[A-Z]\w*\b(?!::)", use)})
+    return rust
+
+
+def types_in(lines):
+    """The types that a file declares: for each the lines of its declaration, of its view, and the words to follow."""
+    rust = imported(lines)
     for at, line in enumerate(lines):
         declared = re.match(r"pub (?:struct|enum) (\w+)", line)
         if not declared:
@@ -387,6 +404,17 @@ class Reading:
             if key in self.types:
                 yield "type", *key
 
+    def of_code(self, text, crate, lines):
+        """The constants and the types that a clause names as the code does."""
+        for word, at in imported(lines).items():
+            if re.search(rf"\b{word}\b", text):
+                own = crate if at == "crate" else at
+                for page, (_, _, stands) in self.found.items():
+                    if page.startswith(f"{own}.specs.declared") and word in stands:
+                        yield "definition", page, word
+                if (own, word) in self.types:
+                    yield "type", own, word
+
     def head(self, name):
         """The lines of a call's comment, head and clauses."""
         _, _, lines, at = self.calls[name]
@@ -400,9 +428,7 @@ class Reading:
     def of_signature(self, name):
         """The types of the product that the signature of a call names, and the type that it is a method of."""
         crate, _, lines, at = self.calls[name]
-        rust = {}
-        for use in re.findall(r"(?m)^use ((?:crate|buck(?:fleet)?_\w+)[^;]*);", "\n".join(lines)):
-            rust.update({name: use.split("::")[0] for name in re.findall(r"\b[A-Z]\w*\b(?!::)", use)})
+        rust = imported(lines)
         signature = "\n".join(lines[at : self.head(name)[1] + 1]).split("requires")[0]
         yield from self.of_types(f"{name.split('::')[-2]} {signature}", crate, rust)
 
@@ -410,7 +436,10 @@ class Reading:
         """What a call, a type or a definition leads to, in the order in which it is named."""
         if node[0] == "call":
             _, _, lines, at = self.calls[node[1]]
-            yield from self.of_names(clauses(lines, at), None, taken_by(lines, "ghost "))
+            said = clauses(lines, at)
+            promised = "".join(part for part in re.split(r"(?m)^(?=\s*(?:requires|ensures)\b)", said) if "ensures" in part)
+            yield from self.of_names(promised + said, None, taken_by(lines, "ghost "))
+            yield from self.of_code(said, self.calls[node[1]][0], lines)
             for it in self.of_signature(node[1]):
                 if self.types[it[1:]][3] != (0, -1):
                     yield it

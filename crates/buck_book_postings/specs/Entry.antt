@@ -15,4 +15,4 @@ pub record DemandParts : Type 0 where
   pub harvester : ℕ
   pub number : ℕ  -- which of its harvester's calls it is, from 1
   pub version : ℕ  -- of the sheet in force before it
-  pub targets : List ℕ  -- what is wanted of each class from here on
+  pub targets : List ℕ  -- the target of each class, in force from here on for all logs since the first

@@ -20,8 +20,8 @@ pub struct Demand {
     pub number: u32,
     /// Version in force before it, from 0; the next one begins after it.
     pub version: u32,
-    /// Number of logs wanted of each class from here on: assortment by assortment, row by row. Each is 0 to 1,000,000
-    /// if the demand is valid.
+    /// The target of each class, a number of logs, in force from here on for all logs since the first: assortment by
+    /// assortment, row by row. Each is 0 to 1,000,000 if the demand is valid.
     pub targets: Arc<Vec<u32>>,
 }
 
