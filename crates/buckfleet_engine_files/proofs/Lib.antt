@@ -2,9 +2,9 @@ pub mod LastSheet
 pub mod Lists
 pub mod Made
 pub mod Numbers
-pub mod Opening
+pub mod OpenLemmas
 pub mod Ruled
 pub mod Runs
-pub mod Several
+pub mod SeveralLemmas
 pub mod Statuses
 pub mod WrittenLemmas

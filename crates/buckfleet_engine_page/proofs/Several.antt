@@ -22,7 +22,7 @@ use Rattle.buckfleet_engine_page.specs.Showing.{Shows}
 use Rattle.buckfleet_engine_page.specs.Viewing.{AppendsPage, AppendsTable}
 use Rattle.buckfleet_engine_page.specs.inner.Several.{ShowsAll, ShowsUnlawful}
 use Rattle.buckfleet_engine_page.specs.inner.View.{WritesAs}
-use Rattle.buckfleet_engine_files.proofs.Several.{accepted}
+use Rattle.buckfleet_engine_files.proofs.SeveralLemmas.{accepted}
 
 -- a page and a table of lawful journals
 pub pages_shown : (Shown Left : Type 0) (i : InstructionParts) (js : List JournalParts) (old new : Option (List ℕ))

@@ -1,5 +1,5 @@
 use Rattle.std.proofs.Common.{rules}
-use Rattle.buckfleet_engine_files.proofs.Opening.{opens_next}
+use Rattle.buckfleet_engine_files.proofs.OpenLemmas.{opens_next}
 use Rattle.buckfleet_engine_files.proofs.opening.open_all.Goals as goal
 
 pub loop-k-preserved : goal.loop-k-preserved

@@ -5,7 +5,7 @@ use Rattle.buck_book_postings.specs.declared.posting.TheConstants.{MOST_POSTINGS
 use Rattle.buck_book_journal.specs.reading.Journal.{JournalParts, journal_of}
 use Rattle.buckfleet_engine_files.specs.Reading.{Says}
 use Rattle.buckfleet_engine_files.proofs.Lists.{same_place, same_rest}
-use Rattle.buckfleet_engine_files.proofs.Several.{memory_at, read_more, refused_at}
+use Rattle.buckfleet_engine_files.proofs.SeveralLemmas.{memory_at, read_more, refused_at}
 use Rattle.buckfleet_engine_files.proofs.several.read_journals.Goals as goal
 
 pub returns-in-Err-clause-refused : goal.returns-in-Err-clause-refused

@@ -1,6 +1,6 @@
 use Rattle.std.proofs.Common.{◌≡◌, length, map, drop}
 use Rattle.buckfleet_engine_files.specs.inner.Several.{AreEachFew}
-use Rattle.buckfleet_engine_files.proofs.Several.{AreRead}
+use Rattle.buckfleet_engine_files.proofs.SeveralLemmas.{AreRead}
 use Rattle.buckfleet_engine_files.proofs.several.read_journals.Given as goal
 
 abbrev pub invariant-loop-place : goal.invariant-loop-place

@@ -4,7 +4,7 @@ use Rattle.std.proofs.lemmas.List.Elements.{All-more}
 use Rattle.buck_book_postings.specs.History.{IsLawful}
 use Rattle.buck_book_journal.specs.judging.Replay.{history_of}
 use Rattle.buckfleet_engine_files.specs.Several.{AreLawful}
-use Rattle.buckfleet_engine_files.proofs.Several.{few_of_all}
+use Rattle.buckfleet_engine_files.proofs.SeveralLemmas.{few_of_all}
 use Rattle.buckfleet_engine_files.proofs.several.replay_several.Goals as goal
 
 pub replay-requires-clause-few : goal.replay-requires-clause-few

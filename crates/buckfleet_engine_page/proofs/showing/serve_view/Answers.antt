@@ -1,6 +1,6 @@
 use Rattle.std.proofs.Common.{arith}
 use Rattle.std.proofs.lemmas.List.{length-map}
-use Rattle.buckfleet_engine_files.proofs.Opening.{as_many}
+use Rattle.buckfleet_engine_files.proofs.OpenLemmas.{as_many}
 use Rattle.buckfleet_engine_page.proofs.showing.serve_view.Goals as goal
 
 pub show_opened-requires-clause-number : goal.show_opened-requires-clause-number

@@ -1,6 +1,6 @@
 use Rattle.std.proofs.Common.{◌≡◌, ℕ, List, map, subst, arith, rules, Bor}
 use Rattle.std.proofs.lemmas.List.{length-map}
-use Rattle.buckfleet_engine_files.proofs.Opening.{as_many}
+use Rattle.buckfleet_engine_files.proofs.OpenLemmas.{as_many}
 use Rattle.buckfleet_proceeds.specs.Serving.{AnswersFiles}
 use Rattle.buckfleet_proceeds.proofs.Stopped.{stops_before}
 use Rattle.buckfleet_proceeds.proofs.serving.open_files.Goals as goal

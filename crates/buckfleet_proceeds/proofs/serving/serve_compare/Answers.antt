@@ -1,7 +1,7 @@
 use Rattle.std.proofs.Common.{◌≡◌, length, map, arith, rules, Ok, subst}
 use Rattle.std.proofs.lemmas.List.{length-map}
 use Rattle.buckfleet_engine_files.specs.Written.{WritesText}
-use Rattle.buckfleet_engine_files.proofs.Opening.{as_many}
+use Rattle.buckfleet_engine_files.proofs.OpenLemmas.{as_many}
 use Rattle.buckfleet_proceeds.specs.Serving.{AnswersCompare}
 use Rattle.buckfleet_proceeds.proofs.serving.serve_compare.Goals as goal
 
