@@ -1,5 +1,6 @@
 -- What is read of a file's bytes.
 use Rattle.std.specs.Prelude.{◌≡◌, ◌⊎◌, List, ℕ, Result, Ok, Err, ◌≤◌, length, Option, IfSome}
+use Rattle.buck_record.specs.checking.Check.{◌>>=◌}
 use Rattle.buck_apt.specs.Instruction.{InstructionParts}
 use Rattle.buck_apt.specs.Apt.{apt_of}
 use Rattle.buck_stem.specs.file.Stm.{stm_of}
