@@ -36,7 +36,7 @@ ABOUT = {
     "wrong_page::figures::count_of_the_last_cut_forgotten": ("buck_page_figures", "figures_of"),
     "wrong_page::names::*_gets_through": ("buck_page_text", "Name"),
     "wrong_page::names::text_printed_by_its_bytes": ("buck_page_text", "Name"),
-    "wrong_engine::views::journals_65_accepted": ("buckfleet_engine", "ViewTask"),
+    "wrong_engine::views::journals_65_accepted": ("buckfleet_engine_page", "ViewTask"),
     "wrong_world::steps::*": ("buck_fleet_world", "World::step"),
 }
 

@@ -4,7 +4,6 @@
 //! proves that what it gives, or leaves behind, isn't what the wrong body of the function's name would give or leave.
 #![tactic(auto)]
 
-pub mod commands;
 pub mod faults;
 pub mod files;
 pub mod fleets;
