@@ -1,80 +1,13 @@
 //! Wrong bodies of instructions and their reader.
-#![tactic(auto, unfolding(buck_record::specs::bytes::Record::numbers_of, buck_record::specs::bytes::Record::number_at_most, buck_record::specs::bytes::Record::item_of, buck_record::specs::bytes::Record::items_of, buck_record::specs::bytes::White::words, buck_record::specs::bytes::White::first_word, buck_record::specs::bytes::White::after_word, buck_record::specs::bytes::White::trim_start, buck_record::specs::bytes::White::trim_end, buck_record::specs::Reading::each_from, buck_record::specs::checking::Table::rest_in, buck_record::specs::checking::Table::groups_of, buck_record::specs::checking::Rules::numbers_in, buck_record::specs::checking::Check::each, buck_record::specs::checking::Check::make_each, buck_apt::specs::Apt::apt_of, buck_apt::specs::Apt::draft_in, buck_apt::specs::Apt::within_limits, buck_apt::specs::Apt::group_present, buck_apt::specs::Apt::present, buck_apt::specs::Apt::group_single, buck_apt::specs::Apt::single, buck_apt::specs::Apt::numbers_or, buck_apt::specs::Apt::draft_of, buck_apt::specs::Apt::file_draft_of, buck_apt::specs::Apt::draft_range, buck_apt::specs::Apt::in_range, buck_apt::specs::Apt::draft_order, buck_apt::specs::Apt::in_order, buck_apt::specs::Apt::draft_count, buck_apt::specs::Apt::in_number, buck_apt::specs::Apt::on_module, buck_apt::specs::Apt::in_targets, buck_record::specs::writing::Written::spaced, buck_apt::specs::Text::wood_text, buck_apt::specs::Text::sizes_text, buck_apt::specs::Text::tables_text, buck_apt::specs::Text::assortment_text, buck_apt::specs::Text::text_of))]
 
 ghost use Rattle.std.specs.Prelude.{◌≡◌, ◌≢◌, ◌<◌, ◌+◌, ◌*◌, length, slice_get, slice_index, sum};
-ghost use Rattle.buck_apt.specs.Instruction.{IsClass, classes_before, place_in};
+ghost use Rattle.buck_apt.specs.Instruction.{IsClass, classes, classes_before, place_in};
 
 use buck_apt::{AptFault, Assortment, Class, Instruction, instruction_text, read_apt};
 use std::alloc::Global;
 
-/// An instruction of one assortment with one class.
-const ONE_CLASS: &[u8] =
-    b"1 2 APT~901 1 100~902 1 7~903 1 500~910 1 1~911 1 SAW~912 1 1~913 1 1~914 1 2~915 1 100~915 2 900~916 1 3000~917 1 600~918 1 4~";
-
-/// An assortment's lower limit of 1,501 mm is let by.
-pub fn lower_limit_of_1501_accepted(alloc: Global) {
-    let right = read_apt(
-        alloc,
-        b"1 2 APT~901 1 100~902 1 7~903 1 500~910 1 1~911 1 SAW~912 1 1~913 1 1~914 1 2~915 1 1501~915 2 1600~916 1 3000~917 1 600~918 1 4~",
-    )
-    .is_ok();
-    let wrong = true;
-    prove!(right != wrong);
-}
-
-/// The first item of the head that is missing is the period.
-pub fn period_missing_before_module(alloc: Global) {
-    if let Err(fault) = read_apt(alloc, b"1 2 APT") {
-        let wrong = AptFault::Missing {
-            number: 902,
-            kind: 1,
-        };
-        prove!(fault != wrong);
-    }
-}
-
-/// A trim allowance that is left out is refused as a missing number.
-pub fn absent_trim_refused(alloc: Global) {
-    if let Err(fault) = read_apt(alloc, ONE_CLASS) {
-        let wrong = AptFault::Count {
-            number: 919,
-            kind: 1,
-        };
-        prove!(fault != wrong);
-    }
-}
-
-/// An instruction whose one assortment has two rows and two columns.
-const FOUR_CLASSES: &[u8] =
-    b"1 2 APT~901 1 100~902 1 7~903 1 500~910 1 1~911 1 SAW~912 1 1~913 1 1~914 1 2~915 1 100 200~915 2 900~916 1 3000 4000~917 1 600 700 800 900~918 1 4 5 6 7~";
-
-/// An instruction of two assortments, of two classes and of one.
-const TWO_ASSORTMENTS: &[u8] =
-    b"1 2 APT~901 1 100~902 1 7~903 1 500~910 1 2~911 1 SAW~912 1 1~913 1 1~914 1 2~915 1 100 200~915 2 900~916 1 3000~917 1 600 700~918 1 4 5~911 1 PULP~912 1 1~913 1 1~914 1 1~915 1 50~915 2 500~916 1 3000~917 1 200~918 1 0~";
-
-/// A member that stands before the first name is let by.
-pub fn items_before_the_first_name_accepted(alloc: Global) {
-    let right = read_apt(
-        alloc,
-        b"1 2 APT~901 1 100~902 1 7~903 1 500~910 1 1~919 1 0~911 1 SAW~912 1 1~913 1 1~914 1 2~915 1 100~915 2 900~916 1 3000~917 1 600~918 1 4~",
-    )
-    .is_ok();
-    let wrong = true;
-    prove!(right != wrong);
-}
-
-/// An item that stands twice in its assortment is let by.
-pub fn second_item_accepted(alloc: Global) {
-    let right = read_apt(
-        alloc,
-        b"1 2 APT~901 1 100~902 1 7~903 1 500~910 1 1~911 1 SAW~912 1 1~912 1 2~913 1 1~914 1 2~915 1 100~915 2 900~916 1 3000~917 1 600~918 1 4~",
-    )
-    .is_ok();
-    let wrong = true;
-    prove!(right != wrong);
-}
-
 /// A range is looked at before items that stand twice.
+#[tactic(auto, unfolding(buck_record::specs::bytes::Record::numbers_of, buck_record::specs::bytes::Record::number_at_most, buck_record::specs::bytes::Record::item_of, buck_record::specs::bytes::Record::items_of, buck_record::specs::bytes::White::words, buck_record::specs::bytes::White::first_word, buck_record::specs::bytes::White::after_word, buck_record::specs::bytes::White::trim_start, buck_record::specs::bytes::White::trim_end, buck_record::specs::Reading::each_from, buck_record::specs::checking::Table::rest_in, buck_record::specs::checking::Table::groups_of, buck_record::specs::checking::Rules::numbers_in, buck_record::specs::checking::Check::each, buck_record::specs::checking::Check::make_each, buck_apt::specs::Apt::apt_of, buck_apt::specs::Apt::draft_in, buck_apt::specs::Apt::within_limits, buck_apt::specs::Apt::group_present, buck_apt::specs::Apt::present, buck_apt::specs::Apt::group_single, buck_apt::specs::Apt::single, buck_apt::specs::Apt::numbers_or, buck_apt::specs::Apt::draft_of, buck_apt::specs::Apt::file_draft_of, buck_apt::specs::Apt::draft_range, buck_apt::specs::Apt::in_range, buck_apt::specs::Apt::draft_order, buck_apt::specs::Apt::in_order, buck_apt::specs::Apt::draft_count, buck_apt::specs::Apt::in_number, buck_apt::specs::Apt::on_module, buck_apt::specs::Apt::in_targets))]
 pub fn range_before_twice(alloc: Global) {
     if let Err(fault) = read_apt(
         alloc,
@@ -96,15 +29,13 @@ pub fn assortments_are_none(instruction: &Instruction) {
 }
 
 /// The classes are the rows.
-pub fn classes_are_rows(alloc: Global) {
-    let Ok(instruction) = read_apt(alloc, FOUR_CLASSES) else {
-        return;
-    };
-    if let Some(assortment) = instruction.assortments().first() {
-        let right = assortment.classes();
-        let wrong = assortment.diameters().len();
-        prove!(right != wrong);
-    }
+pub fn classes_are_rows(assortment: &Assortment)
+    requires rows { 0 < length assortment.now.diameters }
+    requires columns { 1 < length assortment.now.lengths }
+{
+    let right = assortment.classes();
+    let wrong = assortment.diameters().len();
+    prove!(right != wrong);
 }
 
 /// A class's price is its target.
@@ -138,13 +69,12 @@ pub fn targets_sum_is_nothing(assortment: &Assortment)
     prove!(right != wrong);
 }
 
-/// The classes of the first assortment are left out.
-pub fn classes_without_the_first_assortment(alloc: Global) {
-    let Ok(instruction) = read_apt(alloc, TWO_ASSORTMENTS) else {
-        return;
-    };
+/// The assortments are counted in the place of their classes.
+pub fn classes_are_assortments(instruction: &Instruction)
+    requires { classes instruction.now ≢ length instruction.now.assortments }
+{
     let right = instruction.classes();
-    let wrong = 1;
+    let wrong = instruction.assortments().len();
     prove!(right != wrong);
 }
 
@@ -200,33 +130,8 @@ pub fn copy_without_targets(alloc: Global, assortment: &Assortment)
     prove!(right != wrong);
 }
 
-/// Values at which four of these give different answers.
-pub fn classes_that_differ(alloc: Global) {
-    let Ok(instruction) = read_apt(alloc, FOUR_CLASSES) else {
-        return;
-    };
-    if let Some(assortment) = instruction.assortments().first() {
-        price_is_target(assortment, 1, 0);
-        target_of_first_column(assortment, 0, 1);
-        targets_sum_is_nothing(assortment);
-        copy_without_targets(alloc, assortment);
-    }
-}
-
-/// The number of assortments in a text is the limit.
-pub fn text_count_is_the_limit(alloc: Global) {
-    let Ok(instruction) = read_apt(alloc, ONE_CLASS) else {
-        return;
-    };
-    let Ok(right) = instruction_text(alloc, &instruction) else {
-        return;
-    };
-    let wrong: &[u8] =
-        b"1 2 APT~\n901 1 100~\n902 1 7~\n903 1 500~\n910 1 500~\n911 1 SAW~\n912 1 1~\n913 1 1~\n914 1 2~\n915 1 100~\n915 2 900~\n916 1 3000~\n917 1\n600~\n918 1\n4~\n";
-    prove!(right.as_slice() != wrong);
-}
-
 /// A trim allowance of 1 mm is left out of a text.
+#[tactic(auto, unfolding(buck_record::specs::bytes::Record::numbers_of, buck_record::specs::bytes::Record::number_at_most, buck_record::specs::bytes::Record::item_of, buck_record::specs::bytes::Record::items_of, buck_record::specs::bytes::White::words, buck_record::specs::bytes::White::first_word, buck_record::specs::bytes::White::after_word, buck_record::specs::bytes::White::trim_start, buck_record::specs::bytes::White::trim_end, buck_record::specs::Reading::each_from, buck_record::specs::checking::Table::rest_in, buck_record::specs::checking::Table::groups_of, buck_record::specs::checking::Rules::numbers_in, buck_record::specs::checking::Check::each, buck_record::specs::checking::Check::make_each, buck_apt::specs::Apt::apt_of, buck_apt::specs::Apt::draft_in, buck_apt::specs::Apt::within_limits, buck_apt::specs::Apt::group_present, buck_apt::specs::Apt::present, buck_apt::specs::Apt::group_single, buck_apt::specs::Apt::single, buck_apt::specs::Apt::numbers_or, buck_apt::specs::Apt::draft_of, buck_apt::specs::Apt::file_draft_of, buck_apt::specs::Apt::draft_range, buck_apt::specs::Apt::in_range, buck_apt::specs::Apt::draft_order, buck_apt::specs::Apt::in_order, buck_apt::specs::Apt::draft_count, buck_apt::specs::Apt::in_number, buck_apt::specs::Apt::on_module, buck_apt::specs::Apt::in_targets, buck_record::specs::writing::Written::spaced, buck_apt::specs::Text::wood_text, buck_apt::specs::Text::sizes_text, buck_apt::specs::Text::tables_text, buck_apt::specs::Text::assortment_text, buck_apt::specs::Text::text_of))]
 pub fn text_without_a_trim_of_1(alloc: Global) {
     let Ok(instruction) = read_apt(
         alloc,

@@ -1,7 +1,7 @@
 //! Wrong bodies of what reads items and numbers, and of what writes them.
 #![tactic(auto, unfolding(buck_record::specs::bytes::Record::number_of, buck_record::specs::bytes::Record::numbers_of, buck_record::specs::bytes::Record::number_at_most, buck_record::specs::bytes::Record::item_of, buck_record::specs::bytes::Record::items_of, buck_record::specs::bytes::White::words, buck_record::specs::bytes::White::first_word, buck_record::specs::bytes::White::after_word, buck_record::specs::bytes::White::trim_start, buck_record::specs::bytes::White::trim_end, buck_record::specs::Reading::each_from, buck_record::specs::checking::Table::rest_in, buck_record::specs::checking::Table::groups_of, buck_record::specs::checking::Rules::numbers_in, buck_record::specs::checking::Check::each, buck_record::specs::checking::Check::make_each))]
 
-ghost use Rattle.std.specs.Prelude.{◌≡◌, ◌≤◌, ◌+◌, ◌*◌, [], ◌∷◌, nat_le, length, IsTrue, Ok};
+ghost use Rattle.std.specs.Prelude.{◌≡◌, ◌≤◌, ◌+◌, ◌*◌, [], nat_le, length, IsTrue, Ok};
 ghost use Rattle.buck_record.specs.checking.Check.{check, each, make_each};
 ghost use Rattle.buck_record.specs.Reading.{Gives, with_fault};
 ghost use Rattle.buck_record.specs.bytes.Record.{items_of};
@@ -68,13 +68,6 @@ pub fn pieces_empty_kept(alloc: Global) {
     }
 }
 
-/// A kind past 65,535 is read.
-pub fn pieces_kind_65536_accepted(alloc: Global) {
-    let right = pieces(alloc, b"1 65536 APT").is_ok();
-    let wrong = true;
-    prove!(right != wrong);
-}
-
 /// A refusal names the item by its place among those that were kept.
 pub fn pieces_at_counts_only_the_kept(alloc: Global) {
     let right = pieces_at(alloc, b"7 7 other~no head", &[FILE]);
@@ -96,15 +89,6 @@ pub fn items_kind_for_number(alloc: Global) {
     }
 }
 
-/// The greatest number is refused.
-pub fn numbers_4294967295_refused(alloc: Global) {
-    let right = numbers(alloc, b"4294967295");
-    if let Err(fault) = right {
-        let wrong = RecordFault::Digits { place: 1 };
-        prove!(fault != wrong);
-    }
-}
-
 /// The last of four digits is dropped.
 pub fn last_digit_of_short_words_dropped(alloc: Global) {
     let Ok(right) = numbers(alloc, b"1234 5") else {
@@ -117,13 +101,6 @@ pub fn last_digit_of_short_words_dropped(alloc: Global) {
 /// A comma ends a word.
 pub fn is_white_comma_too() {
     let right = number(b"7,");
-    let wrong: Result<u32, RecordFault> = Ok(7);
-    prove!(right != wrong);
-}
-
-/// The second word of a text is passed over.
-pub fn number_second_word_ignored() {
-    let right = number(b"7 8");
     let wrong: Result<u32, RecordFault> = Ok(7);
     prove!(right != wrong);
 }
@@ -203,15 +180,6 @@ pub fn ten_is_a_digit_of_a_kept_list(held: &mut Vec<u32>) {
     prove!(right != wrong);
 }
 
-/// Words of other forms than one to four digits are refused, for a list that is kept.
-pub fn other_words_of_a_kept_list_refused(held: &mut Vec<u32>) {
-    let Ok(right) = numbers_into(b"00012", held) else {
-        return;
-    };
-    let wrong = false;
-    prove!(right != wrong);
-}
-
 /// A short word is read as the next number.
 pub fn short_words_of_a_kept_list_one_more(held: &mut Vec<u32>) {
     let Ok(true) = numbers_into(b"12 900", held) else {
@@ -251,8 +219,8 @@ pub fn twice_accepted() {
 
 /// Of the items before the first in a slot, that one is given too.
 pub fn front_with_the_first() {
-    let right = front(&TWO_KINDS, UPPER).len();
-    let wrong = 2;
+    let right = front(&TWO_KINDS, LOWER).len();
+    let wrong = 1;
     prove!(right != wrong);
 }
 
@@ -451,16 +419,6 @@ pub fn is_rising_stands_still() {
     prove!(right != wrong);
 }
 
-/// A number is written with a zero before it in the place of the space.
-pub fn put_number_without_a_blank(alloc: Global) {
-    let mut out = Vec::new(alloc);
-    let Ok(()) = put_number(&mut out, 7) else {
-        return;
-    };
-    let wrong: &[u8] = b"07";
-    prove!(out.as_slice() != wrong);
-}
-
 /// A number that is to stand after a line feed stands after a space.
 pub fn put_after_a_blank_always(alloc: Global) {
     let mut out = Vec::new(alloc);
@@ -510,16 +468,6 @@ pub fn numbers_into_without_the_first(held: &mut Vec<u32>) {
     let right = held.len();
     let wrong = 0;
     prove!(right != wrong);
-}
-
-/// A line has no line feed at its end.
-pub fn put_line_without_end(alloc: Global) {
-    let mut out = Vec::new(alloc);
-    let Ok(()) = put_line(&mut out, b"LAWFUL", &[2]) else {
-        return;
-    };
-    let wrong: &[u8] = b"LAWFUL 2";
-    prove!(out.as_slice() != wrong);
 }
 
 /// A list is turned around when it is taken over.

@@ -3,33 +3,9 @@ ghost use Rattle.std.specs.Prelude.{◌≡◌, ◌≢◌};
 
 use buck_apt::{Instruction, Settings};
 
-/// A period of no stems is taken.
-pub fn period_0_taken() {
-    let settings = Settings::of(Some(0), None);
-    let right = settings.is_some();
-    let wrong = true;
-    prove!(right != wrong);
-}
-
 /// A period one longer than the longest is taken.
 pub fn period_1001_taken() {
     let settings = Settings::of(Some(1_001), None);
-    let right = settings.is_some();
-    let wrong = true;
-    prove!(right != wrong);
-}
-
-/// The longest period is refused.
-pub fn period_1000_refused() {
-    let settings = Settings::of(Some(1_000), None);
-    let right = settings.is_some();
-    let wrong = false;
-    prove!(right != wrong);
-}
-
-/// A limit one farther than the farthest is taken.
-pub fn limit_1001_taken() {
-    let settings = Settings::of(None, Some(1_001));
     let right = settings.is_some();
     let wrong = true;
     prove!(right != wrong);
@@ -60,15 +36,6 @@ pub fn limit_lost(instruction: Instruction, wrong: u32)
 {
     if let Some(settings) = Settings::of(Some(7), None) {
         let right = instruction.with(&settings).limit();
-        prove!(right != wrong);
-    }
-}
-
-/// The period that is put in becomes the limit.
-pub fn period_put_in_as_limit(instruction: Instruction) {
-    if let Some(settings) = Settings::of(Some(7), Some(300)) {
-        let right = instruction.with(&settings).limit();
-        let wrong = 7;
         prove!(right != wrong);
     }
 }

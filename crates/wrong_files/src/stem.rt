@@ -1,5 +1,4 @@
 //! Wrong bodies of stems, their profiles and their reader.
-#![tactic(auto, unfolding(buck_record::specs::bytes::Record::numbers_of, buck_record::specs::bytes::Record::number_at_most, buck_record::specs::bytes::Record::item_of, buck_record::specs::bytes::Record::items_of, buck_record::specs::bytes::White::words, buck_record::specs::bytes::White::first_word, buck_record::specs::bytes::White::after_word, buck_record::specs::bytes::White::trim_start, buck_record::specs::bytes::White::trim_end, buck_record::specs::Reading::each_from, buck_record::specs::checking::Table::rest_in, buck_record::specs::checking::Table::groups_of, buck_record::specs::checking::Rules::numbers_in, buck_record::specs::checking::Check::each, buck_record::specs::checking::Check::make_each, buck_stem::specs::file::Stm::stm_of, buck_stem::specs::file::Stm::drafts_in, buck_stem::specs::file::Stm::checked, buck_stem::specs::file::Stm::stem_present, buck_stem::specs::file::Stm::present, buck_stem::specs::file::Stm::stem_single, buck_stem::specs::file::Stm::single, buck_stem::specs::file::Stm::draft_of, buck_stem::specs::file::Stm::draft_range, buck_stem::specs::file::Stm::in_range, buck_stem::specs::file::Stm::draft_order, buck_stem::specs::file::Stm::in_order, buck_stem::specs::file::Stm::draft_count, buck_stem::specs::file::Stm::in_number, buck_stem::specs::file::Stm::parts_of))]
 
 ghost use Rattle.std.specs.Int.{bit_at};
 ghost use Rattle.std.specs.Prelude.{◌≡◌, ◌≢◌, ◌<◌, ◌≤◌, ◌+◌, ◌-◌, ◌*◌, ◌/◌, [], ◌∷◌, Contains, IfSome};
@@ -10,41 +9,8 @@ use buck_stem::{Profile, ProfileLists, Stem, StemFault, StmFault, read_stm, read
 use std::alloc::Global;
 use std::thread::Threads;
 
-/// Each file of stems is refused.
-pub fn always_refuses_read_stm(alloc: Global) {
-    if let Err(fault) = read_stm(alloc, b"1 2 STM~951 1 7~952 1 1~953 1 300 290~") {
-        let wrong = StmFault::NotStm;
-        prove!(fault != wrong);
-    }
-}
-
-/// A refusal names the item after the one with no head.
-pub fn head_of_the_next_item(alloc: Global) {
-    if let Err(fault) = read_stm(alloc, b"1 2 STM~no head~") {
-        let wrong = StmFault::Head { item: 3 };
-        prove!(fault != wrong);
-    }
-}
-
-/// Zones before the first stem number are let by.
-pub fn zones_before_the_first_number_accepted(alloc: Global) {
-    let right = read_stm(alloc, b"1 2 STM~954 1 500 2~951 1 7~952 1 1~953 1 300 290~").is_ok();
-    let wrong = true;
-    prove!(right != wrong);
-}
-
-/// A second item of zones is let by.
-pub fn second_item_of_zones_accepted(alloc: Global) {
-    let right = read_stm(
-        alloc,
-        b"1 2 STM~951 1 7~952 1 1~953 1 300 290~954 1 50 2~954 1 60 2~",
-    )
-    .is_ok();
-    let wrong = true;
-    prove!(right != wrong);
-}
-
 /// A range is looked at before items that stand twice.
+#[tactic(auto, unfolding(buck_record::specs::bytes::Record::numbers_of, buck_record::specs::bytes::Record::number_at_most, buck_record::specs::bytes::Record::item_of, buck_record::specs::bytes::Record::items_of, buck_record::specs::bytes::White::words, buck_record::specs::bytes::White::first_word, buck_record::specs::bytes::White::after_word, buck_record::specs::bytes::White::trim_start, buck_record::specs::bytes::White::trim_end, buck_record::specs::Reading::each_from, buck_record::specs::checking::Table::rest_in, buck_record::specs::checking::Table::groups_of, buck_record::specs::checking::Rules::numbers_in, buck_record::specs::checking::Check::each, buck_record::specs::checking::Check::make_each, buck_stem::specs::file::Stm::stm_of, buck_stem::specs::file::Stm::drafts_in, buck_stem::specs::file::Stm::checked, buck_stem::specs::file::Stm::stem_present, buck_stem::specs::file::Stm::present, buck_stem::specs::file::Stm::stem_single, buck_stem::specs::file::Stm::single, buck_stem::specs::file::Stm::draft_of, buck_stem::specs::file::Stm::draft_range, buck_stem::specs::file::Stm::in_range, buck_stem::specs::file::Stm::draft_order, buck_stem::specs::file::Stm::in_order, buck_stem::specs::file::Stm::draft_count, buck_stem::specs::file::Stm::in_number, buck_stem::specs::file::Stm::parts_of))]
 pub fn range_before_twice(alloc: Global) {
     if let Err(fault) = read_stm(alloc, b"1 2 STM~951 1 7~952 1 0~952 1 0~953 1 300 290~") {
         let wrong = StmFault::Range {
@@ -55,63 +21,8 @@ pub fn range_before_twice(alloc: Global) {
     }
 }
 
-/// A diameter of 1,501 mm is let by.
-pub fn diameter_of_1501_accepted(alloc: Global) {
-    let right = read_stm(alloc, b"1 2 STM~951 1 7~952 1 1~953 1 1501 290~").is_ok();
-    let wrong = true;
-    prove!(right != wrong);
-}
-
-/// Zones in any order are let by.
-pub fn zones_in_any_order_accepted(alloc: Global) {
-    let right = read_stm(
-        alloc,
-        b"1 2 STM~951 1 7~952 1 1~953 1 300 290~954 1 60 2 50 3~",
-    )
-    .is_ok();
-    let wrong = true;
-    prove!(right != wrong);
-}
-
-/// An item of zones is passed over.
-pub fn read_without_zones(alloc: Global) {
-    let Ok(stems) = read_stm(alloc, b"1 2 STM~951 1 7~952 1 1~953 1 300 290~954 1 50 2~") else {
-        return;
-    };
-    if let Some(stem) = stems.first() {
-        let right = stem.zones().len();
-        let wrong = 0;
-        prove!(right != wrong);
-    }
-}
-
-/// A stem that was read is lost.
-pub fn read_stem_lost(alloc: Global) {
-    let Ok(stems) = read_stm(
-        alloc,
-        b"1 2 STM~951 1 7~952 1 1~953 1 300 290~951 1 8~952 1 1~953 1 300~",
-    ) else {
-        return;
-    };
-    let right = stems.len();
-    let wrong = 1;
-    prove!(right != wrong);
-}
-
-/// The stems end at an item that is in no slot.
-pub fn read_up_to_a_skipped_item(alloc: Global) {
-    let Ok(stems) = read_stm(
-        alloc,
-        b"1 2 STM~951 1 7~952 1 1~953 1 300 290~3 1 a~951 1 8~952 1 1~953 1 300~",
-    ) else {
-        return;
-    };
-    let right = stems.len();
-    let wrong = 1;
-    prove!(right != wrong);
-}
-
 /// Of two parts that are read side by side, the second comes first.
+#[tactic(auto, unfolding(buck_record::specs::bytes::Record::numbers_of, buck_record::specs::bytes::Record::number_at_most, buck_record::specs::bytes::Record::item_of, buck_record::specs::bytes::Record::items_of, buck_record::specs::bytes::White::words, buck_record::specs::bytes::White::first_word, buck_record::specs::bytes::White::after_word, buck_record::specs::bytes::White::trim_start, buck_record::specs::bytes::White::trim_end, buck_record::specs::Reading::each_from, buck_record::specs::checking::Table::rest_in, buck_record::specs::checking::Table::groups_of, buck_record::specs::checking::Rules::numbers_in, buck_record::specs::checking::Check::each, buck_record::specs::checking::Check::make_each, buck_stem::specs::file::Stm::stm_of, buck_stem::specs::file::Stm::drafts_in, buck_stem::specs::file::Stm::checked, buck_stem::specs::file::Stm::stem_present, buck_stem::specs::file::Stm::present, buck_stem::specs::file::Stm::stem_single, buck_stem::specs::file::Stm::single, buck_stem::specs::file::Stm::draft_of, buck_stem::specs::file::Stm::draft_range, buck_stem::specs::file::Stm::in_range, buck_stem::specs::file::Stm::draft_order, buck_stem::specs::file::Stm::in_order, buck_stem::specs::file::Stm::draft_count, buck_stem::specs::file::Stm::in_number, buck_stem::specs::file::Stm::parts_of))]
 pub fn later_part_read_first<T: Threads + Sync>(rt: &T, alloc: Global) {
     let file = b"1 2 STM~951 1 7~952 1 1~953 1 300 290~951 1 8~952 1 1~953 1 300~";
     let Ok(stems) = read_stm_in_parts(rt, alloc, file, 2) else {
@@ -122,17 +33,6 @@ pub fn later_part_read_first<T: Threads + Sync>(rt: &T, alloc: Global) {
         let wrong = 8;
         prove!(right != wrong);
     }
-}
-
-/// Of two parts that are read side by side, the last is dropped.
-pub fn last_part_read_dropped<T: Threads + Sync>(rt: &T, alloc: Global) {
-    let file = b"1 2 STM~951 1 7~952 1 1~953 1 300 290~951 1 8~952 1 1~953 1 300~";
-    let Ok(stems) = read_stm_in_parts(rt, alloc, file, 2) else {
-        return;
-    };
-    let right = stems.len();
-    let wrong = 1;
-    prove!(right != wrong);
 }
 
 fn stem(alloc: Global, samples: &[u16], zones: &[(u32, u8)]) -> Option<Stem>
@@ -223,32 +123,6 @@ pub fn diameter_of_the_raw_sample(alloc: Global) {
     };
     let right = stem.diameter_at(200);
     let wrong = 290;
-    prove!(right != wrong);
-}
-
-/// The least so far passes over the last of 16 samples.
-pub fn running_least_without_the_last(alloc: Global) {
-    let Some(stem) = stem(
-        alloc,
-        &[
-            300, 300, 300, 300, 300, 300, 300, 300, 300, 300, 300, 300, 300, 300, 300, 280, 290,
-        ],
-        &[],
-    ) else {
-        return;
-    };
-    let right = stem.diameter_at(1600);
-    let wrong = 290;
-    prove!(right != wrong);
-}
-
-/// The least so far starts below 1,500 mm.
-pub fn short_samples_below_1500(alloc: Global) {
-    let Some(stem) = stem(alloc, &[1500], &[]) else {
-        return;
-    };
-    let right = stem.diameter_at(0);
-    let wrong = 1499;
     prove!(right != wrong);
 }
 
@@ -359,17 +233,4 @@ pub fn run_start_of_an_earlier_run(profile: &Profile<'_>, i: usize, grade: u8, w
 {
     let right = profile.run_start(i);
     prove!(right != wrong);
-}
-
-/// Values at which three of these give different answers.
-pub fn points_that_differ(alloc: Global) {
-    let Some(stem) = stem(alloc, &[300, 280], &[]) else {
-        return;
-    };
-    let Ok(profile) = Profile::make(alloc, &stem, 50) else {
-        return;
-    };
-    points_without_the_butt(&profile, 2);
-    diameter_of_an_earlier_point(&profile, 2, 0);
-    diameters_of_half_the_places(&profile);
 }
