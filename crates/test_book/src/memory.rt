@@ -51,25 +51,32 @@ fn refused_memory_of_a_demand(rt: HostRuntime) -> Result<(), Fail> {
     with_memory(is_refused)
 }
 
-#[test]
-fn refused_memory_of_a_text(rt: HostRuntime) -> Result<(), Fail> {
-    let targets = targets_of(&rt, &[7])?;
-    let second = Posting::Demand(Demand {
+/// The text of a demand of 7 logs by harvester 64.
+fn text_of_a_demand(rt: &HostRuntime) -> Result<Vec<u8>, Fail> {
+    let demand = Demand {
         harvester: 64,
         number: 2,
         version: 1,
-        targets,
-    });
-    let text = journal_text(rt.alloc(), &[], &[second])?;
-    let want = b"1 2 JRN~\n982 1 64 2 1~\n982 2 7~\n";
-    assert!(rt; text.as_slice() == want.as_slice());
-    Ok(())
+        targets: targets_of(rt, &[7])?,
+    };
+    Ok(journal_text(rt.alloc(), &[], &[Posting::Demand(demand)])?)
+}
+
+/// Whether a second posting made of each of two is the same as that one alone.
+fn are_cloned(cut: &Posting, demand: &Posting) -> Result<bool, Fail> {
+    let (one, two) = (cut.clone()?, demand.clone()?);
+    Ok(one.same(cut) && !one.same(demand) && two.same(demand) && !two.same(cut))
 }
 
 #[test]
-fn refused_memory_of_a_reading(rt: HostRuntime) -> Result<(), Fail> {
+fn refused_memory_of_a_journal(rt: HostRuntime) -> Result<(), Fail> {
+    let text = text_of_a_demand(&rt)?;
+    assert!(rt; text.as_slice() == b"1 2 JRN~\n982 1 64 2 1~\n982 2 7~\n".as_slice());
     let journal = read_journal(rt.alloc(), SHORT_JOURNAL.as_bytes())?;
-    assert!(rt; journal.sheets.len() == 1 && journal.entries.len() == 2);
+    let [cut, demand] = journal.entries.as_slice() else {
+        return Err(Fail::from("not two postings"));
+    };
+    assert!(rt; journal.sheets.len() == 1 && are_cloned(cut, demand)?);
     Ok(())
 }
 
@@ -88,25 +95,8 @@ fn replayed(rt: &HostRuntime, worth: &str) -> Result<Result<(), ReplayFault>, Fa
 #[test]
 fn refused_memory_of_a_replay(rt: HostRuntime) -> Result<(), Fail> {
     match replayed(&rt, "132535799")? {
-        Err(ReplayFault::Worth { at: 1 }) => Ok(()),
+        Err(ReplayFault::Worth { at: 1 }) => Ok(replayed(&rt, "132535800")??),
         Err(fault) => Err(Fail::from(fault)),
         Ok(()) => Err(Fail::from("the journal was found lawful")),
     }
-}
-
-#[test]
-fn refused_memory_of_a_lawful_replay(rt: HostRuntime) -> Result<(), Fail> {
-    Ok(replayed(&rt, "132535800")??)
-}
-
-#[test]
-fn refused_memory_of_a_second_posting(rt: HostRuntime) -> Result<(), Fail> {
-    let journal = read_journal(rt.alloc(), SHORT_JOURNAL.as_bytes())?;
-    assert!(rt; journal.entries.len() == 2);
-    let (cut, demand) = (&journal.entries[0], &journal.entries[1]);
-    let again = cut.clone()?;
-    assert!(rt; again.same(cut) && !again.same(demand));
-    let again = demand.clone()?;
-    assert!(rt; again.same(demand) && !again.same(cut));
-    Ok(())
 }
