@@ -27,25 +27,10 @@ fn has_numbers(alloc: Global, text: &[u8], wanted: &[u32]) -> Result<bool, Recor
 }
 
 #[test]
-fn long_files_of_tildes(rt: HostRuntime) -> Result<(), Fail> {
-    let tildes = Vec::from_elem(rt.alloc(), 126, LONG)?;
-    assert_eq!(rt; items_of(rt.alloc(), tildes.as_slice())?, Some(0));
-    Ok(())
-}
-
-#[test]
 fn long_files_of_blanks(rt: HostRuntime) -> Result<(), Fail> {
     let blanks = Vec::from_elem(rt.alloc(), 32, LONG)?;
     assert_eq!(rt; items_of(rt.alloc(), blanks.as_slice())?, Some(0));
     assert!(rt; has_numbers(rt.alloc(), blanks.as_slice(), &[])?);
-    Ok(())
-}
-
-#[test]
-fn long_files_of_zeros(rt: HostRuntime) -> Result<(), Fail> {
-    let zeros = Vec::from_elem(rt.alloc(), 48, LONG)?;
-    assert!(rt; has_numbers(rt.alloc(), zeros.as_slice(), &[0])?);
-    assert!(rt; lacks_head(rt.alloc(), zeros.as_slice(), 1));
     Ok(())
 }
 

@@ -1,72 +1,8 @@
-//! Stems that are made of their parts: the limits of each, and diameters and grades worked out by hand.
-use buck_stem::{Stem, StemFault};
+//! Diameters and grades of stems, worked out by hand.
+use buck_stem::Stem;
 use fixture_samples::stem_of;
 use std::alloc::Global;
 use std::test::Fail;
-
-/// The species, the diameter of each sample in mm, how many samples there are, the zones, and whether that is a stem.
-type Parts<'a> = (u8, u16, usize, &'a [(u32, u8)], bool);
-
-const PARTS: [Parts<'static>; 24] = [
-    (0, 250, 41, &[], false),
-    (1, 250, 41, &[], true),
-    (255, 250, 41, &[], true),
-    (1, 250, 0, &[], false),
-    (1, 250, 1, &[], true),
-    (1, 250, 7, &[], true),
-    (1, 250, 7, &[(0, 3)], true),
-    (1, 250, 8, &[], true),
-    (1, 250, 8, &[(0, 3)], true),
-    (1, 250, 401, &[], true),
-    (1, 250, 402, &[], false),
-    (1, 0, 41, &[], true),
-    (1, 1500, 41, &[], true),
-    (1, 1501, 41, &[], false),
-    (1, 250, 41, &[(0, 0)], false),
-    (1, 250, 41, &[(0, 1)], true),
-    (1, 250, 41, &[(0, 8)], true),
-    (1, 250, 41, &[(0, 9)], false),
-    (1, 250, 41, &[(40_000, 1)], true),
-    (1, 250, 41, &[(40_001, 1)], false),
-    (1, 250, 41, &[(100, 1), (99, 2)], false),
-    (1, 250, 41, &[(100, 1), (100, 2)], false),
-    (1, 250, 41, &[(100, 1), (101, 2)], true),
-    (1, 250, 1, &[(0, 1), (40_000, 8)], true),
-];
-
-/// Whether a stem is made of these parts.
-fn is_made(
-    alloc: Global,
-    species: u8,
-    sample: u16,
-    count: usize,
-    zones: &[(u32, u8)],
-) -> Result<bool, Fail> {
-    let samples = vec![in alloc; sample; count]?;
-    let zones = zones.to_vec(alloc)?;
-    match Stem::make(alloc, 1, species, samples, zones) {
-        Ok(_) => Ok(true),
-        Err(StemFault::Limits) => Ok(false),
-        Err(fault) => Err(Fail::from(fault)),
-    }
-}
-
-/// The first row that differs, counted from 1; 0 if none does.
-fn first_other_parts(alloc: Global, rows: &[Parts<'_>]) -> Result<usize, Fail> {
-    for i in 0..rows.len() {
-        let (species, sample, count, zones, wanted) = rows[i];
-        if is_made(alloc, species, sample, count, zones)? != wanted {
-            return Ok(i + 1);
-        }
-    }
-    Ok(0)
-}
-
-#[test]
-fn limits_of_parts(rt: HostRuntime) -> Result<(), Fail> {
-    assert_eq!(rt; first_other_parts(rt.alloc(), &PARTS)?, 0);
-    Ok(())
-}
 
 const FALLING: &[u16] = &[250, 240, 245, 201];
 
