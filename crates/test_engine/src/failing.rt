@@ -3,12 +3,9 @@ ghost use Rattle.std.specs.Prelude.{◌<◌};
 
 use crate::streams::{Sink, Source, Trouble};
 use crate::work::{ENGINES, Ending, Engine};
-use buck_rule::{Rule, Standing, step};
-use buckfleet_engine::{run_fleet_files, run_in_turn};
 use buckfleet_engine_files::EngineFault;
 use std::alloc::Global;
 use std::sync::Wait;
-use std::test::Fail;
 use std::thread::Threads;
 
 /// How many bytes a read gives and a write takes.
@@ -177,52 +174,4 @@ fn byte_after_byte(rt: HostRuntime) {
         assert!(rt; run.wrote(engine.texts()), "{engine:?}");
         assert!(rt; run.text.writes == engine.texts()[1].len(), "{engine:?}");
     }
-}
-
-/// Whether so many stem files are refused before anything is read.
-fn are_no_seats<T: Threads + Wait + Sync>(
-    rt: &T,
-    alloc: Global,
-    number: usize,
-) -> Result<bool, Fail> {
-    let mut stms = Vec::new(alloc);
-    for _ in 0..number {
-        stms.push(Source::of(b"1 2 STM~", STEP))?;
-    }
-    let mut apt = Source::of(b"1 2 STM~", STEP);
-    let mut report = Sink::of(STEP);
-    let turns = run_in_turn(
-        alloc,
-        &mut apt,
-        stms.as_mut_slice(),
-        Rule::new(|s: &Standing| step(s)),
-        None::<&mut Sink>,
-        &mut report,
-    );
-    let fleet = run_fleet_files(
-        rt,
-        alloc,
-        &mut apt,
-        stms.as_mut_slice(),
-        Rule::new(|s: &Standing| step(s)),
-        None::<&mut Sink>,
-        &mut report,
-    );
-    let mut reads = apt.reads;
-    for stm in &stms {
-        reads = reads.saturating_add(stm.reads);
-    }
-    let are_refused = turns == Err(EngineFault::Seats) && fleet == Err(EngineFault::Seats);
-    Ok(reads == 0 && are_refused && report.writes == 0)
-}
-
-#[test]
-fn seats_before_any_read(rt: HostRuntime) -> Result<(), Fail> {
-    for (number, are_none) in [(0, true), (64, false), (65, true)] {
-        assert!(rt;
-            are_no_seats(&rt, rt.alloc(), number)? == are_none,
-            "{number}"
-        );
-    }
-    Ok(())
 }

@@ -39,22 +39,14 @@ fn text_by<'x, T: Threads + Sync>(
     Ok(text)
 }
 
-/// Whether these numbers of threads end with a stem file as one engine without threads does, with a text or a fault.
-fn is_same<T: Threads + Sync>(
-    rt: &T,
-    alloc: Global,
-    stm: &str,
-    right: bool,
-    numbers: &[u8],
-) -> Result<bool, Fail> {
+/// Whether 1 to 9 threads write of a stem file what one engine without threads does.
+fn is_same<T: Threads + Sync>(rt: &T, alloc: Global, stm: &str) -> Result<bool, Fail> {
     let (apt, _) = apt_and_stm();
     let files = (apt.as_bytes(), stm.as_bytes());
-    let one = text_by(rt, alloc, files, None);
-    for threads in numbers {
-        match (&one, &text_by(rt, alloc, files, Some(*threads))) {
-            (Ok(text), Ok(made)) if right && text.as_slice() == made.as_slice() => {}
-            (Err(fault), Err(told)) if !right && fault == told => {}
-            _ => return Ok(false),
+    let one = text_by(rt, alloc, files, None)?;
+    for threads in 1..10 {
+        if text_by(rt, alloc, files, Some(threads))?.as_slice() != one.as_slice() {
+            return Ok(false);
         }
     }
     Ok(true)
@@ -62,41 +54,9 @@ fn is_same<T: Threads + Sync>(
 
 #[test]
 fn numbers_of_threads(rt: HostRuntime) -> Result<(), Fail> {
-    let numbers = [1, 2, 3, 4, 5, 6, 7, 8, 9];
     for number in [0, 1, 7, 1_000] {
         let stm = stem_file(rt.alloc(), number)?;
-        assert!(rt;
-            is_same(&rt, rt.alloc(), stm.as_str(), true, &numbers)?,
-            "{number}"
-        );
-    }
-    Ok(())
-}
-
-/// What stands before a stem, and whether the file is right with it: empty pieces, an item that is skipped, an item
-/// without a head, a stem without diameters, and zones that were begun.
-const ODD: [(&str, bool); 5] = [
-    (" ~\t~\n~", true),
-    ("960 1 5~", true),
-    ("x~", false),
-    ("951 1 7~", false),
-    ("954 1 50~", false),
-];
-
-/// Files that are read in parts, of 140,000 bytes, and have something odd in a part, or where they may be cut.
-#[test]
-fn odd_files(rt: HostRuntime) -> Result<(), Fail> {
-    let whole = stem_file(rt.alloc(), 600)?;
-    for (odd, right) in ODD {
-        for k in [1, 300, 599] {
-            let from = format!(in rt.alloc(); "951 1 {k}~")?;
-            let to = format!(in rt.alloc(); "{odd}951 1 {k}~")?;
-            let stm = whole.replace(rt.alloc(), from.as_str(), to.as_str())?;
-            assert!(rt;
-                is_same(&rt, rt.alloc(), stm.as_str(), right, &[2, 4])?,
-                "{odd} {k}"
-            );
-        }
+        assert!(rt; is_same(&rt, rt.alloc(), stm.as_str())?, "{number}");
     }
     Ok(())
 }
