@@ -464,48 +464,6 @@ fn wrong_run<T: Threads + Wait + Sync>(
     Ok(None)
 }
 
-#[test]
-fn runs_of_words(rt: HostRuntime) -> Result<(), Fail> {
-    let wrong = wrong_run(&rt, rt.alloc(), &WORDS)?.unwrap_or("none");
-    assert!(rt; wrong == "none", "{wrong}");
-    Ok(())
-}
-
-#[test]
-fn runs_of_fleets(rt: HostRuntime) -> Result<(), Fail> {
-    let wrong = wrong_run(&rt, rt.alloc(), &FLEETS)?.unwrap_or("none");
-    assert!(rt; wrong == "none", "{wrong}");
-    Ok(())
-}
-
-#[test]
-fn runs_over_journals(rt: HostRuntime) -> Result<(), Fail> {
-    let wrong = wrong_run(&rt, rt.alloc(), &JOURNALS)?.unwrap_or("none");
-    assert!(rt; wrong == "none", "{wrong}");
-    Ok(())
-}
-
-#[test]
-fn pages_and_tables(rt: HostRuntime) -> Result<(), Fail> {
-    let wrong = wrong_run(&rt, rt.alloc(), &PAGES)?.unwrap_or("none");
-    assert!(rt; wrong == "none", "{wrong}");
-    Ok(())
-}
-
-#[test]
-fn faults_in_words(rt: HostRuntime) -> Result<(), Fail> {
-    let wrong = wrong_run(&rt, rt.alloc(), &EXPLAINED)?.unwrap_or("none");
-    assert!(rt; wrong == "none", "{wrong}");
-    Ok(())
-}
-
-#[test]
-fn sentences_of_lines(rt: HostRuntime) -> Result<(), Fail> {
-    let wrong = wrong_run(&rt, rt.alloc(), &SENTENCES)?.unwrap_or("none");
-    assert!(rt; wrong == "none", "{wrong}");
-    Ok(())
-}
-
 /// The table of three harvesters, with two stems, one and two, by each rule with two periods.
 const SWEPT: &str =
     "rule,period,limit,versions,\"degree_0 saw\",least_degree,base_worth_millionths,best_base_worth_millionths,cost_ten_thousandths,volume_cm3,\"volume_cm3_0 saw\",\"unsteered_volume_cm3_0 saw\",\"diameter_degree_0 saw\",\"length_degree_0 saw\"
@@ -541,33 +499,16 @@ const SWEEPS: [Row; 9] = [
     ("sweep --journal o apt stm", 2, "error: ", ""),
 ];
 
-#[test]
-fn tables_of_sweeps(rt: HostRuntime) -> Result<(), Fail> {
-    let wrong = wrong_run(&rt, rt.alloc(), &SWEEPS)?.unwrap_or("none");
-    assert!(rt; wrong == "none", "{wrong}");
-    Ok(())
-}
-
-/// Words before so many stem files, how many files they name, the status, and how what stands on the stream begins.
-const SEATS: [(&str, usize, usize, u8, &str); 5] = [
-    ("fleet apt", 64, 1, 0, "ENTRY 0 "),
-    ("fleet apt", 65, 1, 2, "seats\n"),
-    ("fleet --in-turn apt", 64, 1, 0, ENTRY),
-    ("fleet --in-turn apt", 65, 1, 2, "seats\n"),
-    ("check apt jrn", 65, 2, 2, "seats\n"),
+/// All tables of words.
+const TABLES: [&[Row]; 7] = [
+    &WORDS, &FLEETS, &JOURNALS, &PAGES, &EXPLAINED, &SENTENCES, &SWEEPS,
 ];
 
-/// More than 64 stem files are refused after all of them were opened.
 #[test]
-fn too_many_stem_files(rt: HostRuntime) -> Result<(), Fail> {
-    for (words, number, named, status, start) in SEATS {
-        let files = " stm".repeat(rt.alloc(), number)?;
-        let line = format!(in rt.alloc(); "{words}{files}")?;
-        let ending = run_line(&rt, rt.alloc(), line.as_str())?;
-        let is_right = ending.status == status && says(&ending, start);
-        assert!(rt; is_right, "{words} {number}");
-        let names = "stm ".len().saturating_mul(number.saturating_add(named));
-        assert!(rt; ending.names.len() == names, "{words} {number}");
+fn runs_of_words(rt: HostRuntime) -> Result<(), Fail> {
+    for rows in TABLES {
+        let wrong = wrong_run(&rt, rt.alloc(), rows)?.unwrap_or("none");
+        assert!(rt; wrong == "none", "{wrong}");
     }
     Ok(())
 }
