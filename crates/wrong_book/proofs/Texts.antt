@@ -5,10 +5,6 @@ use Rattle.buck_book_postings.specs.declared.posting.Posting.TheVariants.{Cut, D
 use Rattle.buck_book_journal.specs.Written.{journal_text, cut_text, demand_text}
 use Rattle.wrong_book.specs.Texts.{zoned_cut, second_demand}
 
-pub no_postings : journal_text [] [] ≡ codes "1 2 JRN~\n"
-unfolding journal_text
-no_postings = refl
-
 pub text_of_a_cut : journal_text [] (Cut zoned_cut ∷ [])
     ≡ codes "1 2 JRN~\n981 1 3 1 0~\n981 2 7 1~\n981 3 250 240~\n981 4 0 1 100 8~\n981 5 0 4000 0~\n981 6 157080000~\n"
 unfolding journal_text cut_text digits

@@ -124,15 +124,6 @@ pub fn targets_of_the_opening<F: Drop>(book: &Book<F>, wrong: &[u32])
     prove!(right != wrong);
 }
 
-/// No targets are returned.
-pub fn targets_hidden<F: Drop>(book: &Book<F>)
-    requires { 0 < classes book.now.history.instruction }
-{
-    let right = book.targets().is_empty();
-    let wrong = true;
-    prove!(right != wrong);
-}
-
 /// No postings are returned.
 pub fn entries_hidden<F: Drop>(book: &Book<F>)
     requires { 0 < length book.now.history.postings }
@@ -390,14 +381,6 @@ pub fn demand_targets_before_full<F: Fn(&Standing) -> u64 + Drop>(
     prove!(right != wrong);
 }
 
-/// The largest target is refused.
-pub fn largest_target_refused(instruction: &Instruction) {
-    let refused = check_targets(instruction, &[1_000_000]);
-    let right = matches!(&refused, Err(TargetsFault::Range { at: 0 }));
-    let wrong = true;
-    prove!(right != wrong);
-}
-
 /// A target above the largest is let in.
 pub fn target_above_the_largest_let_in(instruction: &Instruction) {
     let right = check_targets(instruction, &[1_000_001]).is_ok();
@@ -490,15 +473,6 @@ pub fn entry_clone_as_the_first(entry: &Entry) -> Result<(), Memory>
 /// Two entries of different logs are said to be the same.
 pub fn entry_same_without_logs(one: &Entry, two: &Entry)
     requires { one.now.logs ≢ two.now.logs }
-{
-    let right = one.same(two);
-    let wrong = true;
-    prove!(right != wrong);
-}
-
-/// Two entries of different stems are said to be the same.
-pub fn entry_same_without_stems(one: &Entry, two: &Entry)
-    requires { one.now.stem ≢ two.now.stem }
 {
     let right = one.same(two);
     let wrong = true;

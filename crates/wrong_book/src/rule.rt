@@ -21,16 +21,6 @@ const OVER: Standing = Standing {
     counts: 1,
 };
 
-/// The same class on its target: one of four logs is of it.
-const EVEN: Standing = Standing {
-    base: 600,
-    limit: 500,
-    target: 1,
-    targets: 4,
-    count: 1,
-    counts: 4,
-};
-
 /// A class under its target by one standard deviation: two of sixteen logs are of it.
 const LACKING: Standing = Standing {
     base: 600,
@@ -39,16 +29,6 @@ const LACKING: Standing = Standing {
     targets: 4,
     count: 2,
     counts: 16,
-};
-
-/// A class over its target whose span is 1.
-const CHEAP: Standing = Standing {
-    base: 3,
-    limit: 500,
-    target: 1,
-    targets: 4,
-    count: 1,
-    counts: 1,
 };
 
 /// The base price in the place of what the closure answers.
@@ -76,36 +56,11 @@ pub fn step_under_and_over_swapped() {
     prove!(right != wrong);
 }
 
-/// A step up for a class over its target.
-pub fn step_over_and_under_swapped() {
-    let standing = OVER;
-    let right = step(&standing);
-    let wrong = 900;
-    prove!(right != wrong);
-}
-
 /// The part over the target is taken of both shares together.
 pub fn linear_of_wrong_whole() {
     let standing = OVER;
     let right = linear(&standing);
     let wrong = 600 - 300 * (4 - 1) / (4 + 1);
-    prove!(right != wrong);
-}
-
-/// The part of the span is rounded up.
-pub fn linear_rounded_up() {
-    let standing = CHEAP;
-    let right = linear(&standing);
-    let wrong = 2;
-    prove!(right != wrong);
-}
-
-/// The part of the span is taken off a class under its target.
-#[tactic(auto, unfolding(buck_rule::specs::Root::root_up_to))]
-pub fn root_moved_the_wrong_way() {
-    let standing = UNDER;
-    let right = root(&standing);
-    let wrong = 600 - 300 * 1 / (1 + 4);
     prove!(right != wrong);
 }
 
@@ -115,33 +70,6 @@ pub fn root_of_what_was_cut() {
     let standing = LACKING;
     let right = root(&standing);
     let wrong = 600 + 300 * 8 / (8 + 6);
-    prove!(right != wrong);
-}
-
-/// The deviation is the root of the wanted number, without the one log.
-#[tactic(auto, unfolding(buck_rule::specs::Root::root_up_to))]
-pub fn root_without_the_one_log() {
-    let standing = OVER;
-    let right = root(&standing);
-    let wrong = 600 - 300 * 3 / (3 + 2);
-    prove!(right != wrong);
-}
-
-/// The deviation is rounded up.
-#[tactic(auto, unfolding(buck_rule::specs::Root::root_up_to))]
-pub fn root_of_a_deviation_rounded_up() {
-    let standing = OVER;
-    let right = root(&standing);
-    let wrong = 600 - 300 * 3 / (3 + 5);
-    prove!(right != wrong);
-}
-
-/// The part of the span is rounded up.
-#[tactic(auto, unfolding(buck_rule::specs::Root::root_up_to))]
-pub fn root_rounded_up() {
-    let standing = OVER;
-    let right = root(&standing);
-    let wrong = 471;
     prove!(right != wrong);
 }
 
@@ -161,41 +89,10 @@ pub fn rule_of_no_word() {
     prove!(right != wrong);
 }
 
-/// A rule has the word of another.
-pub fn word_of_another_rule() {
-    let right = NamedRule::of_name("root");
-    let wrong = Some(NamedRule::Step);
-    prove!(right != wrong);
-}
-
 /// Under the target one price more is let in than the span reaches.
 pub fn meets_wide_above_the_span() {
     let standing = UNDER;
     let right = meets(&standing, 901);
-    let wrong = true;
-    prove!(right != wrong);
-}
-
-/// The upper end of the span is left out.
-pub fn meets_without_the_end_of_the_span() {
-    let standing = UNDER;
-    let right = meets(&standing, 900);
-    let wrong = false;
-    prove!(right != wrong);
-}
-
-/// On the target a lower price is let in.
-pub fn meets_wide_on_target() {
-    let standing = EVEN;
-    let right = meets(&standing, 599);
-    let wrong = true;
-    prove!(right != wrong);
-}
-
-/// Over the target a price above the base price is let in.
-pub fn meets_upwards_over_its_target() {
-    let standing = OVER;
-    let right = meets(&standing, 601);
     let wrong = true;
     prove!(right != wrong);
 }

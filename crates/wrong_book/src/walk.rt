@@ -73,26 +73,6 @@ pub fn passed_demand_is_no_end<'a>(
     Ok(())
 }
 
-/// An end that is passed counts for two.
-pub fn passed_version_one_off<'a>(
-    alloc: Global,
-    sheet: &'a Sheet,
-    postings: &'a [Posting],
-    posting: &Posting,
-    demand: &Demand,
-) -> Result<(), Memory>
-    requires one { postings.now ≡ posting.now ∷ [] }
-    requires demand { posting.now ≡ Posting.Demand demand.now }
-    requires valid { AreTargets sheet.now.instruction demand.now.targets }
-{
-    let walk = Walk::opening(alloc, sheet.instruction(), postings)?;
-    let walk = walk.pass(sheet, posting)?;
-    let right = walk.version();
-    let wrong = 2;
-    prove!(right != wrong);
-    Ok(())
-}
-
 /// A class whose price is right is reported, such as the first in the row of a wrong one.
 pub fn wrong_price_at_its_row(walk: &Walk<'_>, prices: &[u32], wrong: usize)
     requires number { length prices.now ≡ classes walk.now.instruction }
@@ -132,21 +112,6 @@ pub fn prices_of_another_place<F: Fn(&Standing) -> u64>(
 ) -> Result<(), Memory>
     requires answers { Answers F.Fn rule.now }
     requires another { AreAnswers F.Fn rule.now walk.now.instruction (passed walk.now) wrong.now → ⊥ }
-{
-    let right = walk.prices(alloc, rule)?;
-    prove!(right.as_slice() != wrong);
-    Ok(())
-}
-
-/// A class without a price.
-pub fn prices_without_one_class<F: Fn(&Standing) -> u64>(
-    alloc: Global,
-    walk: &Walk<'_>,
-    rule: &Rule<F>,
-    wrong: &[u32],
-) -> Result<(), Memory>
-    requires answers { Answers F.Fn rule.now }
-    requires short { length wrong.now < classes walk.now.instruction }
 {
     let right = walk.prices(alloc, rule)?;
     prove!(right.as_slice() != wrong);
