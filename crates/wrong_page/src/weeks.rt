@@ -14,27 +14,6 @@ use buck_dp::Planner;
 use buck_page_figures::{Figures, Place, cut_at, figures_of, place_of};
 use std::alloc::Global;
 
-/// The first journal is counted twice.
-pub fn journal_counted_twice(
-    alloc: Global,
-    planner: &mut Planner,
-    instruction: &Instruction,
-    journals: &[Journal],
-)
-    requires base { planner.old ≡ base_sheet instruction.now }
-    requires some { 0 < length journals.now }
-    requires few { length (postings_of journals.now) ≤ MOST_POSTINGS }
-    requires lawful { All (λ j. IsLawful (history_of instruction.now j)) journals.now }
-    requires two { AreADayEach journals.now }
-{
-    let Ok(figures) = figures_of(alloc, planner, instruction, journals) else {
-        return;
-    };
-    let right = figures.total.stems;
-    let wrong = 3;
-    prove!(right != wrong);
-}
-
 /// The last journal is left out.
 pub fn journal_left_out(
     alloc: Global,
