@@ -4,16 +4,6 @@ use buck_rule::NamedRule;
 use buckfleet_trial_sweep::combinations;
 use std::alloc::Global;
 
-/// A run is left out: two rules with two periods are four runs.
-pub fn combination_left_out(alloc: Global) {
-    let rules = [NamedRule::Steady, NamedRule::Step];
-    if let Ok(Some(made)) = combinations(alloc, &rules, &[Some(1), Some(5)], &[None]) {
-        let right = made.len();
-        let wrong = 3;
-        prove!(right != wrong);
-    }
-}
-
 /// All rules come with the first period, and then all with the next.
 pub fn periods_before_rules(alloc: Global) {
     let rules = [NamedRule::Steady, NamedRule::Step];

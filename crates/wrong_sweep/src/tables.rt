@@ -1,5 +1,5 @@
 //! Wrong bodies of a table over files.
-ghost use Rattle.std.specs.Prelude.{◌≡◌, ◌≤◌, ◌++◌, ℕ, List, [], ◌∷◌, Some, Ok, codes, length, map};
+ghost use Rattle.std.specs.Prelude.{◌≡◌, ◌≤◌, ◌++◌, ℕ, List, [], Some, Ok, length, map};
 ghost use Rattle.buck_stem.specs.Stem.{StemParts};
 ghost use Rattle.buck_stem.specs.file.Stm.{stm_of};
 ghost use Rattle.buck_book_postings.specs.History.{HistoryParts};
@@ -7,37 +7,14 @@ ghost use Rattle.buck_rule.specs.declared.named.NamedRule.TheVariants.{Steady, S
 ghost use Rattle.buckfleet_engine_files.specs.Ruled.{FollowsRule};
 ghost use Rattle.buckfleet_engine.specs.fleet.Running.{AreFirsts};
 ghost use Rattle.buckfleet_trial_sweep.specs.Sweep.{IsLineOver};
-ghost use Rattle.buckfleet_trial_sweep.specs.Table.{IsLine, cells};
-ghost use Rattle.wrong_sweep.specs.Texts.{HasGreatest, HasInstead, HasSwappedDegrees, HasSwappedVolumes, IsInForce, StandsIn, own_run};
+ghost use Rattle.buckfleet_trial_sweep.specs.Table.{IsLine};
+ghost use Rattle.wrong_sweep.specs.Texts.{StandsIn, own_run};
 
 use buck_rule::NamedRule;
 use buckfleet_engine_files::EngineFault;
 use buckfleet_trial_sweep::{Combination, Settings, run_sweep};
 use std::alloc::Global;
 use std::io;
-
-/// A line is of the instruction's own period, or of its own limit, and not of those that were asked for.
-pub fn numbers_of_the_instruction<'x>(
-    alloc: Global,
-    apt: &'x [u8],
-    stms: &mut [&'x [u8]],
-    settings: Settings,
-    wrong: &[u8],
-)
-    requires asked { settings ≡ record { period = Some 7; limit = Some 300 } }
-    requires other { StandsIn (codes "step" ++ cells (Some 7 ∷ Some 300 ∷ [])) wrong.now → ⊥ }
-{
-    let runs = [Combination {
-        rule: NamedRule::Step,
-        settings,
-    }];
-    let mut instruction = apt;
-    let mut right = Vec::new(alloc);
-    let outcome = run_sweep(alloc, &runs, &mut instruction, stms, &mut right);
-    if let Ok(()) = outcome {
-        prove!(right.as_slice() != wrong);
-    }
-}
 
 /// What stands under the name of the rule step are the lines of the linear rule: no history whose prices are those that
 /// step gives has a line in such a text.
@@ -49,80 +26,6 @@ pub fn linear_rule_under_the_name_of_step<'x>(
 )
     requires other { (h : HistoryParts) (line : List ℕ) → FollowsRule Step h → IsLine Step h line
         → StandsIn line wrong.now → ⊥ }
-{
-    let runs = [Combination {
-        rule: NamedRule::Step,
-        settings: Settings::own(),
-    }];
-    let mut instruction = apt;
-    let mut right = Vec::new(alloc);
-    let outcome = run_sweep(alloc, &runs, &mut instruction, stms, &mut right);
-    if let Ok(()) = outcome {
-        prove!(right.as_slice() != wrong);
-    }
-}
-
-/// What was cut is worth what it was under the prices then in force, and not at base prices; so is what steering cost.
-pub fn worths_under_the_prices_in_force<'x>(
-    alloc: Global,
-    apt: &'x [u8],
-    stms: &mut [&'x [u8]],
-    wrong: &[u8],
-)
-    requires instead { HasInstead Step (IsInForce Step) (Some apt.now) (map (λ s. Some s.now) stms.old) wrong.now }
-{
-    let runs = [Combination {
-        rule: NamedRule::Step,
-        settings: Settings::own(),
-    }];
-    let mut instruction = apt;
-    let mut right = Vec::new(alloc);
-    let outcome = run_sweep(alloc, &runs, &mut instruction, stms, &mut right);
-    if let Ok(()) = outcome {
-        prove!(right.as_slice() != wrong);
-    }
-}
-
-/// The least degree is the greatest one.
-pub fn greatest_degree_for_the_least<'x>(
-    alloc: Global,
-    apt: &'x [u8],
-    stms: &mut [&'x [u8]],
-    wrong: &[u8],
-)
-    requires instead { HasInstead Step (HasGreatest Step) (Some apt.now) (map (λ s. Some s.now) stms.old) wrong.now }
-{
-    let runs = [Combination {
-        rule: NamedRule::Step,
-        settings: Settings::own(),
-    }];
-    let mut instruction = apt;
-    let mut right = Vec::new(alloc);
-    let outcome = run_sweep(alloc, &runs, &mut instruction, stms, &mut right);
-    if let Ok(()) = outcome {
-        prove!(right.as_slice() != wrong);
-    }
-}
-
-/// The volumes of the best cuttings stand where those as cut belong, and the other way round.
-pub fn volumes_swapped<'x>(alloc: Global, apt: &'x [u8], stms: &mut [&'x [u8]], wrong: &[u8])
-    requires instead { HasInstead Step (HasSwappedVolumes Step) (Some apt.now) (map (λ s. Some s.now) stms.old) wrong.now }
-{
-    let runs = [Combination {
-        rule: NamedRule::Step,
-        settings: Settings::own(),
-    }];
-    let mut instruction = apt;
-    let mut right = Vec::new(alloc);
-    let outcome = run_sweep(alloc, &runs, &mut instruction, stms, &mut right);
-    if let Ok(()) = outcome {
-        prove!(right.as_slice() != wrong);
-    }
-}
-
-/// The degrees of lengths stand where those of diameters belong, and the other way round.
-pub fn degrees_apart_swapped<'x>(alloc: Global, apt: &'x [u8], stms: &mut [&'x [u8]], wrong: &[u8])
-    requires instead { HasInstead Step (HasSwappedDegrees Step) (Some apt.now) (map (λ s. Some s.now) stms.old) wrong.now }
 {
     let runs = [Combination {
         rule: NamedRule::Step,
