@@ -18,33 +18,6 @@ pub fn below_by_the_remainder() {
     prove!(right != wrong);
 }
 
-/// The number is made of the state before it is mixed: 618 whatever the seed.
-pub fn below_by_the_state_alone() {
-    let mut random = SplitMix64::seed_from_u64(0);
-    let right = below(&mut random, 1000);
-    let wrong = 618;
-    prove!(right != wrong);
-}
-
-/// The generator doesn't move, and the same number is drawn again.
-pub fn below_keeps_the_generator() {
-    let mut random = SplitMix64::seed_from_u64(0);
-    let _first = below(&mut random, 1000);
-    let right = below(&mut random, 1000);
-    let wrong = 883;
-    prove!(right != wrong);
-}
-
-/// The shuffle goes from the first place up: of 1, 2, 3, 4 it begins with 4, from seed 0.
-pub fn shuffle_from_the_first_place_up() {
-    let mut random = SplitMix64::seed_from_u64(0);
-    let mut list: [u8; 4] = [1, 2, 3, 4];
-    shuffle(&mut random, &mut list);
-    let right = list[0];
-    let wrong = 4;
-    prove!(right != wrong);
-}
-
 /// No element may keep its place, as in Sattolo's shuffle: of 1, 2, 3, 4 it begins with 2, from seed 0.
 pub fn shuffle_leaves_nothing_in_its_place() {
     let mut random = SplitMix64::seed_from_u64(0);
@@ -52,16 +25,6 @@ pub fn shuffle_leaves_nothing_in_its_place() {
     shuffle(&mut random, &mut list);
     let right = list[0];
     let wrong = 2;
-    prove!(right != wrong);
-}
-
-/// A number is drawn for the first place too, so that the next number is another.
-pub fn shuffle_draws_for_the_first_place_too() {
-    let mut random = SplitMix64::seed_from_u64(0);
-    let mut list: [u8; 1] = [7];
-    shuffle(&mut random, &mut list);
-    let right = below(&mut random, 1000);
-    let wrong = 431;
     prove!(right != wrong);
 }
 

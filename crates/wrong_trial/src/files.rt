@@ -54,28 +54,11 @@ pub fn own_of_another_module_read(alloc: Global, own: &[u8], instruction: &Instr
     }
 }
 
-/// A refused file has the status of a journal that isn't lawful.
-pub fn refused_targets_as_unlawful() {
-    let right = status(&TermsFault::Targets(TargetsFault::Count));
-    let wrong = 4;
-    prove!(right != wrong);
-}
-
 /// Memory that ran out in the place of a refusal has the status of a refusal.
 pub fn memory_as_refused_targets() {
     let right = status(&TermsFault::Targets(TargetsFault::Memory));
     let wrong = 1;
     prove!(right != wrong);
-}
-
-/// A fault of targets is reported as one of the instruction.
-pub fn targets_told_as_the_instruction(alloc: Global) {
-    let mut right = Vec::new(alloc);
-    let fault = TermsFault::Targets(TargetsFault::Range { at: 7 });
-    if write_terms_fault(&mut right, &fault) {
-        let wrong = b"apt fault 2 7\n";
-        prove!(right.as_slice() != wrong.as_slice());
-    }
 }
 
 /// The place of a word is left out.

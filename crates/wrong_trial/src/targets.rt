@@ -55,28 +55,6 @@ pub fn lists_from_the_last(alloc: Global, instruction: &Instruction) {
     }
 }
 
-/// The base prices are taken for targets.
-pub fn prices_taken_for_targets(alloc: Global) {
-    if let Ok(right) = all_numbers(alloc, b"917 1 500~918 1 7~") {
-        let wrong = [500];
-        prove!(right.as_slice() != wrong.as_slice());
-    }
-}
-
-/// A file with an item that has no head is refused as one that doesn't fit.
-pub fn no_head_told_as_count(alloc: Global, instruction: &Instruction) {
-    let right = targets_in(alloc, b"918 1 7~x~", instruction);
-    let wrong = Err(TargetsFault::Count);
-    prove!(right != wrong);
-}
-
-/// The place of a word that is no number is counted from 0.
-pub fn word_counted_from_0(alloc: Global) {
-    let right = all_numbers(alloc, b"918 1 7~918 1 8 x~");
-    let wrong = Err(TargetsFault::Digits { list: 1, place: 1 });
-    prove!(right != wrong);
-}
-
 /// A number is refused as a target that is too great, though any are asked for.
 pub fn any_number_refused(alloc: Global) {
     let right = all_numbers(alloc, b"918 1 4000000000~");

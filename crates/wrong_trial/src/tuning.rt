@@ -1,5 +1,5 @@
 //! Wrong bodies of prices that are tuned, and of the instruction that is printed.
-ghost use Rattle.std.specs.Prelude.{◌≡◌, ◌≢◌, ◌∷◌, [], Ok, IfSome, List, Some, None, map, slice_index, ℕ};
+ghost use Rattle.std.specs.Prelude.{◌≡◌, ◌≢◌, ◌∷◌, [], Ok, IfSome, Some, None, map, slice_index};
 ghost use Rattle.buck_apt.specs.Apt.{apt_of};
 ghost use Rattle.buck_apt.specs.Instruction.{InstructionParts};
 ghost use Rattle.buck_value.specs.Sheet.{base_prices};
@@ -25,18 +25,6 @@ fn tuned_of(alloc: Global, parts: &Parts, class: usize) -> Option<u32>
     }
 }
 
-/// Of prices that were 10 and then 20, those of the later half alone are taken.
-pub fn tuned_by_the_later_half(alloc: Global, parts: &Parts, class: usize)
-    requires bought { slice_index (base_prices parts.now.instruction) class ≢ 0 }
-    requires prices { map (λ x. slice_index (prices_at parts.now.sheets (planned_version x)) class)
-        parts.now.postings ≡ 10 ∷ 20 ∷ [] }
-{
-    if let Some(right) = tuned_of(alloc, parts, class) {
-        let wrong = 20;
-        prove!(right != wrong);
-    }
-}
-
 /// Of prices that were 10 twice under one sheet and 20 once under the next, each sheet counts once.
 pub fn tuned_by_sheets(alloc: Global, parts: &Parts, class: usize)
     requires bought { slice_index (base_prices parts.now.instruction) class ≢ 0 }
@@ -49,56 +37,9 @@ pub fn tuned_by_sheets(alloc: Global, parts: &Parts, class: usize)
     }
 }
 
-/// The mean of 1 and 2, 1.5, is rounded down.
-pub fn tuned_rounded_down(alloc: Global, parts: &Parts, class: usize)
-    requires bought { slice_index (base_prices parts.now.instruction) class ≢ 0 }
-    requires prices { map (λ x. slice_index (prices_at parts.now.sheets (planned_version x)) class)
-        parts.now.postings ≡ 1 ∷ 2 ∷ [] }
-{
-    if let Some(right) = tuned_of(alloc, parts, class) {
-        let wrong = 1;
-        prove!(right != wrong);
-    }
-}
-
-/// A class whose prices were next to nothing isn't bought any more.
-pub fn tuned_to_nothing(alloc: Global, parts: &Parts, class: usize)
-    requires bought { slice_index (base_prices parts.now.instruction) class ≢ 0 }
-    requires prices { map (λ x. slice_index (prices_at parts.now.sheets (planned_version x)) class)
-        parts.now.postings ≡ 1 ∷ 0 ∷ 0 ∷ [] }
-{
-    if let Some(right) = tuned_of(alloc, parts, class) {
-        let wrong = 0;
-        prove!(right != wrong);
-    }
-}
-
-/// The mean is above what a base price may be.
-pub fn tuned_above_what_a_price_may_be(alloc: Global, parts: &Parts, class: usize)
-    requires bought { slice_index (base_prices parts.now.instruction) class ≢ 0 }
-    requires prices { map (λ x. slice_index (prices_at parts.now.sheets (planned_version x)) class)
-        parts.now.postings ≡ 10000000 ∷ 18000000 ∷ [] }
-{
-    if let Some(right) = tuned_of(alloc, parts, class) {
-        let wrong = 14_000_000;
-        prove!(right != wrong);
-    }
-}
-
 /// A class that isn't bought gets the least price.
 pub fn tuned_a_class_that_is_not_bought(alloc: Global, parts: &Parts, class: usize)
     requires { slice_index (base_prices parts.now.instruction) class ≡ 0 }
-{
-    if let Some(right) = tuned_of(alloc, parts, class) {
-        let wrong = 1;
-        prove!(right != wrong);
-    }
-}
-
-/// Without postings a class that is bought gets the least price.
-pub fn tuned_without_postings(alloc: Global, parts: &Parts, class: usize)
-    requires price { slice_index (base_prices parts.now.instruction) class ≡ 400 }
-    requires none { parts.now.postings ≡ [] }
 {
     if let Some(right) = tuned_of(alloc, parts, class) {
         let wrong = 1;
