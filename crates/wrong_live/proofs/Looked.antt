@@ -9,7 +9,7 @@ use Rattle.buck_value.specs.declared.log.Log.{Log}
 use Rattle.buck_dp.specs.Best.{IsFirstBest, cutting_worth}
 use Rattle.buck_dp_own_logs.specs.declared.reason.Reason.TheVariants.{Species}
 use Rattle.buck_dp_own_logs.specs.declared.judging.Judged.{Judged}
-use Rattle.buck_dp_own_logs.specs.declared.judging.Judged.TheVariants.{Admissible, Refused}
+use Rattle.buck_dp_own_logs.specs.declared.judging.Judged.TheVariants.{Refused}
 use Rattle.buck_dp_own_logs.specs.Judged.{IsJudged}
 use Rattle.buck_dp_own_logs.proofs.Alone.{one_judged}
 use Rattle.buck_book_postings.specs.History.{HistoryParts, in_force}
@@ -111,20 +111,6 @@ second_of stem own best seven =
     (λ (n : ℕ). codes "OWN" ++ (spelled (n ∷ []) ++ named_line_of (codes " not") (2 ∷ []) (codes "species")))
     seven
 
-first_of : (stem : StemParts) (own : List Log) (best : ℕ) → stem.number ≡ 7
-    → own_line stem own best (Refused 0 Species) ≡ codes "OWN 7 not 1 species\n"
-unfolding digits
-first_of stem own best seven =
-    ap
-    (λ (n : ℕ). codes "OWN" ++ (spelled (n ∷ []) ++ named_line_of (codes " not") (1 ∷ []) (codes "species")))
-    seven
-
-priced : (stem : StemParts) (best : ℕ) → stem.number ≡ 7
-    → own_line stem [] best (Admissible 0) ≡ codes "OWN 7 0 0" ++ (spelled (best ∷ []) ++ codes "\n")
-unfolding digits
-priced stem best seven =
-    ap (λ (n : ℕ). codes "OWN" ++ (spelled (n ∷ 0 ∷ 0 ∷ best ∷ []) ++ codes "\n")) seven
-
 no_memory : (a : ℕ) (l : List ℕ) → a ≡ 79 → a ∷ l ≢ memory_line
 no_memory a l is e = let clash : 79 ≡ 109 = sym is ∙ ap (λ (l : List ℕ). get_or l 0 0) e in omega (arith, clash)
 
@@ -138,29 +124,5 @@ counted_from_0 before after request new r stem own run line is asks seven right 
     right
     (λ best e.
     let clash : 49 ≡ 50 = ap (λ (l : List ℕ). get_or l 10 0) (e ∙ second_of stem own best seven) in
-    omega (arith, clash))
-    (no_memory _ _ refl)
-
-pub named_later : (before after : HistoryParts) (request new : List ℕ) (r : Request) (stem : StemParts) (own : List Log)
-    → IsLiveRun before (Some request) (Some []) (Some new) (Ok tt) after → lines_of request ≡ Some request ∷ []
-    → request_of request ≡ Ok (Some r) → r.asked ≡ Own stem own → stem.number ≡ 7
-    → IsJudged (in_force before) stem own (Refused 0 Species) → new ≡ codes "OWN 7 not 1 length\n" → ⊥
-named_later before after request new r stem own run line is asks seven right =
-    judged_otherwise before after request new (codes "OWN 7 not 1 length\n") r stem own (Refused 0 Species) run line is asks
-    right
-    (λ best e.
-    let clash : 108 ≡ 115 = ap (λ (l : List ℕ). get_or l 12 0) (e ∙ first_of stem own best seven) in
-    omega (arith, clash))
-    (no_memory _ _ refl)
-
-pub refused_though_admissible : (before after : HistoryParts) (request new : List ℕ) (r : Request) (stem : StemParts)
-    → IsLiveRun before (Some request) (Some []) (Some new) (Ok tt) after → lines_of request ≡ Some request ∷ []
-    → request_of request ≡ Ok (Some r) → r.asked ≡ Own stem [] → stem.number ≡ 7
-    → new ≡ codes "OWN 7 not 1 order\n" → ⊥
-refused_though_admissible before after request new r stem run line is asks seven =
-    judged_otherwise before after request new (codes "OWN 7 not 1 order\n") r stem [] (Admissible 0) run line is asks
-    (tt, refl)
-    (λ best e.
-    let clash : 110 ≡ 48 = ap (λ (l : List ℕ). get_or l 6 0) (e ∙ priced stem best seven) in
     omega (arith, clash))
     (no_memory _ _ refl)

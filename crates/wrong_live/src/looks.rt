@@ -7,7 +7,7 @@ ghost use Rattle.buck_stem.specs.Stem.{StemParts};
 ghost use Rattle.buck_value.specs.declared.log.Log.{Log};
 ghost use Rattle.buck_dp.specs.Best.{IsFirstBest};
 ghost use Rattle.buck_dp_own_logs.specs.declared.reason.Reason.TheVariants.{Species};
-ghost use Rattle.buck_dp_own_logs.specs.declared.judging.Judged.TheVariants.{Admissible, Refused};
+ghost use Rattle.buck_dp_own_logs.specs.declared.judging.Judged.TheVariants.{Refused};
 ghost use Rattle.buck_dp_own_logs.specs.Judged.{IsJudged};
 ghost use Rattle.buck_book_postings.specs.History.{in_force};
 ghost use Rattle.buckfleet_engine_files.specs.Faults.{memory_line};
@@ -112,47 +112,6 @@ pub fn own_log_counted_from_0<'x, F: Fn(&Standing) -> u64 + Drop>(
     let mut right = Vec::new(alloc);
     let outcome = live.run(alloc, &mut input, &mut right);
     let wrong = b"OWN 7 not 1 species\n".as_slice();
-    if outcome.is_ok() {
-        prove!(right.as_slice() != wrong);
-    }
-}
-
-/// Of two reasons the later is named: the first log is of another species.
-pub fn later_reason_named<'x, F: Fn(&Standing) -> u64 + Drop>(
-    alloc: Global,
-    live: &mut Live<F>,
-    request: &'x [u8],
-)
-    requires answers { Answers F.Fn live.old.rule }
-    requires line { lines_of request.now ≡ Some request.now ∷ [] }
-    requires asked { (r : Request) × (stem : StemParts) × (own : List Log) × (request_of request.now ≡ Ok (Some r))
-        × (r.asked ≡ Own stem own) × (stem.number ≡ 7)
-        × IsJudged (in_force live.old.history) stem own (Refused 0 Species) }
-{
-    let mut input = request;
-    let mut right = Vec::new(alloc);
-    let outcome = live.run(alloc, &mut input, &mut right);
-    let wrong = b"OWN 7 not 1 length\n".as_slice();
-    if outcome.is_ok() {
-        prove!(right.as_slice() != wrong);
-    }
-}
-
-/// A cutting that is admissible is refused.
-pub fn admissible_cutting_refused<'x, F: Fn(&Standing) -> u64 + Drop>(
-    alloc: Global,
-    live: &mut Live<F>,
-    request: &'x [u8],
-)
-    requires answers { Answers F.Fn live.old.rule }
-    requires line { lines_of request.now ≡ Some request.now ∷ [] }
-    requires asked { (r : Request) × (stem : StemParts) × (request_of request.now ≡ Ok (Some r))
-        × (r.asked ≡ Own stem []) × (stem.number ≡ 7) }
-{
-    let mut input = request;
-    let mut right = Vec::new(alloc);
-    let outcome = live.run(alloc, &mut input, &mut right);
-    let wrong = b"OWN 7 not 1 order\n".as_slice();
     if outcome.is_ok() {
         prove!(right.as_slice() != wrong);
     }

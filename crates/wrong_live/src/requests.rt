@@ -29,13 +29,6 @@ pub fn everyone_is_the_first_harvester(alloc: Global) {
     }
 }
 
-/// A preview beside no stem is passed over, as an item of no table is.
-pub fn preview_without_a_stem_passed_over(alloc: Global) {
-    let right = read_request(alloc, b"955 1 1~982 2 5~").is_ok();
-    let wrong = true;
-    prove!(right != wrong);
-}
-
 /// A request that is refused, since the input ends within its line, changes the history.
 #[tactic(auto, using(crate::proofs::Refused::cut_off))]
 pub fn refused_request_changes_the_history<F: Fn(&Standing) -> u64 + Drop>(
