@@ -10,10 +10,6 @@ pub one : decimal 1 ≡ 49 ∷ []
 unfolding digits
 one = refl
 
-pub fifteen : decimal 15 ≡ 49 ∷ 53 ∷ []
-unfolding digits
-fifteen = refl
-
 -- the line of file 0
 abbrev pub line_of_file_0 : List ℕ
 line_of_file_0 = 114 ∷ 101 ∷ 97 ∷ 100 ∷ 32 ∷ 102 ∷ 97 ∷ 117 ∷ 108 ∷ 116 ∷ 32 ∷ 48 ∷ 10 ∷ []

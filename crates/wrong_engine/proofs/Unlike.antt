@@ -1,5 +1,5 @@
 -- Texts that differ in one part differ.
-use Rattle.std.proofs.Common.{◌≡◌, ◌≢◌, ℕ, ◌<◌, ◌+◌, min, List, [], ◌++◌, length, take, sym, ◌∙◌, ap, refl, arith, length-append}
+use Rattle.std.proofs.Common.{◌≡◌, ◌≢◌, ℕ, ◌<◌, ◌+◌, min, List, ◌++◌, length, take, sym, ◌∙◌, ap, refl, arith, length-append}
 use Rattle.std.proofs.lemmas.List.{append_cancel_left, append_cancel_right, length-take, take_all}
 use Rattle.buck_book_postings.specs.declared.posting.Posting.{Posting}
 use Rattle.buck_book_journal.specs.Written.{journal_text}
@@ -38,8 +38,3 @@ journal_written sheets ps old new e none =
     ∙ length-append old (journal_text sheets ps) in
     let begins : 0 < length (journal_text sheets ps) = omega arith in
     omega (arith, long, begins)
-
--- what was written into nothing is of another length
-pub unlike_length : (old line x y : List ℕ) → old ≡ [] → x ≡ old ++ line → x ≡ y → length line ≢ length y → ⊥
-unlike_length old line x y empty p same differ =
-    differ (sym (ap (λ o. length (o ++ line)) empty) ∙ sym (ap length p) ∙ ap length same)

@@ -1,5 +1,4 @@
 //! Wrong bodies of what is said of a fault.
-use buck_apt::AptFault;
 use buckfleet_engine::{conclude, explain};
 use buckfleet_engine_files::{EngineFault, status, write_fault};
 use std::alloc::Global;
@@ -16,23 +15,6 @@ pub fn conclude_status_0_after_a_fault(errors: &mut Vec<u8>) {
     let wrong = 0;
     let right = conclude(errors, &Err(EngineFault::Write));
     prove!(right != wrong);
-}
-
-/// Status 1, as after a refused file, if the words are wrong.
-pub fn explain_usage_ends_with_1(output: &mut Vec<u8>, errors: &mut Vec<u8>) {
-    let wrong = 1;
-    let right = explain(output, errors, b"usage\n", true);
-    prove!(right != wrong);
-}
-
-/// The line of a fault without its number.
-pub fn fault_line_without_a_field(alloc: Global) {
-    let mut line = Vec::new(alloc);
-    let wrong = b"apt fault 15\n".as_slice();
-    let is_whole = write_fault(&mut line, &EngineFault::Apt(AptFault::Head { item: 15 }));
-    if is_whole {
-        prove!(line.as_slice() != wrong);
-    }
 }
 
 /// Says that the line was written if nothing was.
