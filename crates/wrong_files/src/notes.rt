@@ -6,38 +6,11 @@ use buck_apt::Instruction;
 use buckfleet_notes::{first_again, first_namesake, first_untaken, is_too_long, is_unsteered};
 use std::alloc::Global;
 
-/// A number that stands once is noted.
-pub fn number_that_stands_once_noted(alloc: Global) {
-    let numbers = [7, 4, 1];
-    if let Ok(right) = first_again(alloc, &numbers) {
-        let wrong = Some(1);
-        prove!(right != wrong);
-    }
-}
-
 /// The earlier of two places is noted.
 pub fn earlier_of_two_noted(alloc: Global) {
     let numbers = [7, 4, 7];
     if let Ok(right) = first_again(alloc, &numbers) {
         let wrong = Some(0);
-        prove!(right != wrong);
-    }
-}
-
-/// The last place whose number stands twice is noted.
-pub fn last_of_several_noted(alloc: Global) {
-    let numbers = [7, 7, 4, 4];
-    if let Ok(right) = first_again(alloc, &numbers) {
-        let wrong = Some(3);
-        prove!(right != wrong);
-    }
-}
-
-/// A number that stands twice isn't noted.
-pub fn number_that_stands_twice_left_out(alloc: Global) {
-    let numbers = [7, 7];
-    if let Ok(right) = first_again(alloc, &numbers) {
-        let wrong = None;
         prove!(right != wrong);
     }
 }
@@ -67,30 +40,9 @@ pub fn no_stems_noted() {
     prove!(right != wrong);
 }
 
-/// As many stems as a period has aren't noted.
-pub fn stems_of_one_period_left_out() {
-    let right = is_unsteered(5, 5);
-    let wrong = false;
-    prove!(right != wrong);
-}
-
-/// One stem more than a period has is noted.
-pub fn stem_behind_a_period_noted() {
-    let right = is_unsteered(6, 5);
-    let wrong = true;
-    prove!(right != wrong);
-}
-
 /// The longest journal that is read is noted.
 pub fn longest_journal_noted() {
     let right = is_too_long(67_108_864);
     let wrong = true;
-    prove!(right != wrong);
-}
-
-/// A journal one byte longer isn't noted.
-pub fn longer_journal_left_out() {
-    let right = is_too_long(67_108_865);
-    let wrong = false;
     prove!(right != wrong);
 }
