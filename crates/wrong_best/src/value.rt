@@ -100,13 +100,6 @@ pub fn volume_rounded_up() {
     prove!(right != wrong);
 }
 
-/// A cubic metre is priced as a piece.
-pub fn price_kinds_swapped() {
-    let right = worth_of_piece(1, 600, 250_000);
-    let wrong = 600 * 1_000_000;
-    prove!(right != wrong);
-}
-
 /// A piece is priced by its volume.
 pub fn piece_by_volume() {
     let right = worth_of_piece(2, 600, 250_000);
