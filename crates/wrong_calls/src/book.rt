@@ -1,6 +1,7 @@
 //! Wrong answers of a book in its block.
 ghost use Rattle.std.specs.Prelude.{◌≡◌, ◌<◌, ◌≤◌, None, IsSome};
 
+use crate::Handed;
 use buck_c_calls::{
     Cut, State, Terms, buckfleet_close, buckfleet_counts, buckfleet_cut, buckfleet_open,
     buckfleet_prices, buckfleet_retarget, buckfleet_state,
@@ -81,15 +82,13 @@ pub fn refused_cut_shown(
 pub fn position_one_off(
     alloc: Global,
     book: &mut Block,
-    felled: &Felled,
-    samples: &[u16],
-    zones: &[Zone],
+    stem: &Handed<'_>,
     cut: &mut Cut,
     state: &mut State,
 ) {
     if buckfleet_state(alloc, book, state) == 0 {
         let wrong = state.postings.wrapping_add(1);
-        if buckfleet_cut(alloc, book, felled, samples, zones, cut) == 0 {
+        if buckfleet_cut(alloc, book, stem.felled, stem.samples, stem.zones, cut) == 0 {
             let right = cut.position;
             prove!(right != wrong);
         }

@@ -13,6 +13,20 @@ pub mod trials;
 pub mod turns;
 
 use buck_c_calls::Numbers;
+use buck_c_session::{Felled, Zone};
+
+/// A felled stem as C hands it over.
+pub struct Handed<'a> {
+    pub felled: &'a Felled,
+    pub samples: &'a [u16],
+    pub zones: &'a [Zone],
+}
+
+/// The files of a call that C makes, one behind the other, with their lengths.
+pub struct Joined<'a> {
+    pub bytes: &'a [u8],
+    pub lengths: &'a [usize],
+}
 
 /// The instruction's own numbers.
 const OWN: Numbers = Numbers {

@@ -1,6 +1,7 @@
 //! Wrong answers about a felled stem that is looked at in a book in its block.
 ghost use Rattle.std.specs.Prelude.{◌≡◌, ◌≢◌, None, IsSome};
 
+use crate::Handed;
 use buck_c_calls::{Appraised, Cut, State, buckfleet_preview, buckfleet_price_of, buckfleet_state};
 use buck_c_session::{Block, Felled, NamedLog, Zone};
 use std::alloc::Global;
@@ -9,9 +10,7 @@ use std::alloc::Global;
 pub fn preview_posts(
     alloc: Global,
     book: &mut Block,
-    felled: &Felled,
-    samples: &[u16],
-    zones: &[Zone],
+    stem: &Handed<'_>,
     cut: &mut Cut,
     state: &mut State,
 )
@@ -19,7 +18,7 @@ pub fn preview_posts(
 {
     let _ = buckfleet_state(alloc, book, state);
     let before = state.postings;
-    let _ = buckfleet_preview(alloc, book, felled, samples, zones, cut);
+    let _ = buckfleet_preview(alloc, book, stem.felled, stem.samples, stem.zones, cut);
     let _ = buckfleet_state(alloc, book, state);
     let wrong = state.postings != before;
     prove!(!wrong);
@@ -29,16 +28,14 @@ pub fn preview_posts(
 pub fn preview_at_the_last_posting(
     alloc: Global,
     book: &mut Block,
-    felled: &Felled,
-    samples: &[u16],
-    zones: &[Zone],
+    stem: &Handed<'_>,
     cut: &mut Cut,
     state: &mut State,
 )
     requires { IsSome book.old.handle.held }
 {
     let _ = buckfleet_state(alloc, book, state);
-    if buckfleet_preview(alloc, book, felled, samples, zones, cut) == 0 {
+    if buckfleet_preview(alloc, book, stem.felled, stem.samples, stem.zones, cut) == 0 {
         let right = cut.position;
         let wrong = state.postings.wrapping_sub(1);
         prove!(right != wrong);
@@ -65,14 +62,21 @@ pub fn preview_without_a_book(
 pub fn refused_appraisal_shown(
     alloc: Global,
     book: &mut Block,
-    felled: &Felled,
-    samples: &[u16],
-    zones: &[Zone],
+    stem: &Handed<'_>,
     logs: &[NamedLog],
     appraisal: &mut Appraised,
 ) {
     let before = appraisal.worth;
-    if buckfleet_price_of(alloc, book, felled, samples, zones, logs, appraisal) != 0 {
+    if buckfleet_price_of(
+        alloc,
+        book,
+        stem.felled,
+        stem.samples,
+        stem.zones,
+        logs,
+        appraisal,
+    ) != 0
+    {
         let wrong = appraisal.worth != before;
         prove!(!wrong);
     }
@@ -82,13 +86,20 @@ pub fn refused_appraisal_shown(
 pub fn refused_cutting_worth_something(
     alloc: Global,
     book: &mut Block,
-    felled: &Felled,
-    samples: &[u16],
-    zones: &[Zone],
+    stem: &Handed<'_>,
     logs: &[NamedLog],
     appraisal: &mut Appraised,
 ) {
-    if buckfleet_price_of(alloc, book, felled, samples, zones, logs, appraisal) == 0 {
+    if buckfleet_price_of(
+        alloc,
+        book,
+        stem.felled,
+        stem.samples,
+        stem.zones,
+        logs,
+        appraisal,
+    ) == 0
+    {
         let wrong = appraisal.reason != 0 && appraisal.worth != 0;
         prove!(!wrong);
     }
@@ -98,9 +109,7 @@ pub fn refused_cutting_worth_something(
 pub fn log_of_assortment_16_priced(
     alloc: Global,
     book: &mut Block,
-    felled: &Felled,
-    samples: &[u16],
-    zones: &[Zone],
+    stem: &Handed<'_>,
     length: u32,
     appraisal: &mut Appraised,
 ) {
@@ -109,7 +118,16 @@ pub fn log_of_assortment_16_priced(
         length,
         assortment: 16,
     };
-    if buckfleet_price_of(alloc, book, felled, samples, zones, &[log], appraisal) == 0 {
+    if buckfleet_price_of(
+        alloc,
+        book,
+        stem.felled,
+        stem.samples,
+        stem.zones,
+        &[log],
+        appraisal,
+    ) == 0
+    {
         let right = appraisal.reason;
         let wrong = right != 2;
         prove!(!wrong);

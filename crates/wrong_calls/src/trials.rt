@@ -5,7 +5,7 @@ ghost use Rattle.buck_apt.specs.Instruction.{InstructionParts};
 ghost use Rattle.buckfleet_terms_files.specs.Targets.{HasTargets};
 ghost use Rattle.buck_c_calls.specs.Turns.{AreFiles};
 
-use crate::OWN;
+use crate::{Joined, OWN};
 use buck_c_calls::{
     DrawnRun, DrawnRuns, Numbers, Orders, Run, buckfleet_sweep, buckfleet_tune, buckfleet_wishes,
 };
@@ -111,8 +111,7 @@ pub fn wishes_in_periods_of_0(
 #[tactic(auto, using(crate::proofs::Harvests::wishes_left))]
 pub fn wishes_put_as_far_as_they_go(
     alloc: Global,
-    files: &[u8],
-    lengths: &[usize],
+    files: &Joined<'_>,
     run: &DrawnRun,
     right: &mut [u8],
     written: &mut usize,
@@ -120,7 +119,7 @@ pub fn wishes_put_as_far_as_they_go(
 )
     requires { wrong.now ≢ right.old }
 {
-    if buckfleet_wishes(alloc, files, lengths, run, right, written) == 6 {
+    if buckfleet_wishes(alloc, files.bytes, files.lengths, run, right, written) == 6 {
         prove!(*right != *wrong);
     }
 }
@@ -162,8 +161,7 @@ pub fn tune_misused_with_a_text(
 /// What is put isn't an instruction file.
 pub fn tune_puts_no_instruction(
     alloc: Global,
-    files: &[u8],
-    lengths: &[usize],
+    files: &Joined<'_>,
     run: &Run,
     out: &mut [u8],
     written: &mut usize,
@@ -171,7 +169,7 @@ pub fn tune_puts_no_instruction(
 )
     requires { (i : InstructionParts) → apt_of wrong.now ≡ Ok i → ⊥ }
 {
-    if buckfleet_tune(alloc, files, lengths, run, out, written) == 0 {
+    if buckfleet_tune(alloc, files.bytes, files.lengths, run, out, written) == 0 {
         if let Some(right) = out.get(..*written) {
             prove!(right != wrong);
         }
