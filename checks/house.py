@@ -23,6 +23,8 @@
 - Each public item of a product crate has a doc comment. That of each public number, a constant, a field or one in a
   variant, says its unit, its range, from where it counts, or what it counts, in one of the words of UNITS.
 - No line of imports in specs/ and proofs/ is wider than MOST_OF_IMPORTS columns.
+- No function has more than MOST_PARAMETERS parameters beside the value itself, the allocator and the runtime, but for as
+  many as MANY allows each crate.
 - No line of src/ and specs/ of a product crate is wider than 120 columns, imports aside, but for as many as WIDE allows
   each crate.
 
@@ -66,6 +68,7 @@ MOST_LINES = 80
 MOST_BYTES = 2500
 MOST_COLUMNS = 120
 MOST_OF_IMPORTS = 240
+MOST_PARAMETERS = 5
 
 # So many lines are wider today: texts and styles that stand as they are printed, and long clauses. None may be added; a
 # crate that isn't named has none.
@@ -85,6 +88,17 @@ WIDE = {
     "buckfleet_engine": 2,
     "buckfleet_command": 1,
     "buckfleet": 4,
+}
+
+# So many functions have more parameters today. None may be added; a crate that isn't named has none.
+MANY = {
+    "buck_c_calls": 1,
+    "buckfleet_engine": 1,
+    "fixture_plays": 2,
+    "test_surface": 2,
+    "wrong_engine": 1,
+    "wrong_session": 1,
+    "wrong_trial": 1,
 }
 
 # Documents that scripts write, and the page whose rows of more than two cells have texts of the program.
@@ -420,6 +434,39 @@ def wrong_imports():
                     yield f"{path}, line {number}, has {len(line)} columns, {MOST_OF_IMPORTS} at most"
 
 
+def split_in(text, at):
+    """What stands in the brackets that open at a place of a text, split at its commas outside others, and the place
+    behind them."""
+    parts, depth = [""], 0
+    while True:
+        depth += text[at] in "([{<"
+        depth -= text[at] in ")]}" or text[at] == ">" and text[at - 1] != "-"
+        if depth == 0:
+            return [part.strip("([{< \n") for part in parts if part.strip("([{< \n")], at + 1
+        parts = parts + [""] if text[at] == "," and depth == 1 else parts[:-1] + [parts[-1] + text[at]]
+        at += 1
+
+
+def functions_of_many(crate):
+    """The functions of a crate with too many parameters, each with their number."""
+    for words, lines in files_in(crate, "src", ".rt"):
+        text = "\n".join(re.sub(r"^\s*//.*", "", line) for line in lines)
+        for head in re.finditer(r"(?m)^ *(?:pub(?:\([a-z]+\))? )?(?:const )?fn (\w+)(?=[(<])", text):
+            at = split_in(text, head.end())[1] if text[head.end()] == "<" else head.end()
+            given = [part for part in split_in(text, at)[0] if not re.match(r"(mut |&\S* ?)*(self|_?alloc|_?rt)\b", part)]
+            if len(given) > MOST_PARAMETERS:
+                yield f"{'/'.join(words)}::{head[1]}", len(given)
+
+
+def wrong_parameters():
+    """Crates with more functions of too many parameters than they may have."""
+    for crate in crates():
+        found, allowed = list(functions_of_many(crate)), MANY.get(crate, 0)
+        if len(found) > allowed:
+            told = ", ".join(f"{name} {number}" for name, number in found)
+            yield f"{crate} has functions of more than {MOST_PARAMETERS} parameters, {allowed} may: {told}"
+
+
 def public_numbers(lines):
     """The public numbers of a source's lines: the line of each, from 1, its name, its type, and what is said of it: its
     doc comment, that of its variant or of its struct without names, and that of a type that names it in backticks."""
@@ -478,7 +525,7 @@ def main():
         with open(os.path.join(TOP, ARCHITECTURE), "w") as page:
             page.write(text)
     looks = (wrong_names, wrong_pages, wrong_map, wrong_copies, wrong_links, wrong_files, wrong_words, wrong_citations)
-    looks += (wrong_habits, wrong_docs, wrong_units, wrong_widths, wrong_imports)
+    looks += (wrong_habits, wrong_docs, wrong_units, wrong_widths, wrong_imports, wrong_parameters)
     wrong = [line for look in looks for line in look()] + wrong_bodies.looked_at()[1]
     for line in wrong:
         print(line)
