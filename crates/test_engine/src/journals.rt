@@ -2,10 +2,9 @@
 //! thread writes.
 use crate::parts::ROOM;
 use crate::work::apt_and_stm;
-use buckfleet_engine::run_check;
+use buckfleet_engine::{Settings, run_check};
 use buckfleet_engine_cross_check::{CrossCheck, run_check_with};
 use buckfleet_engine_files::{EngineFault, Nobody, SeveralThreads};
-use buckfleet_engine_page::Settings;
 use std::alloc::Global;
 use std::test::Fail;
 use std::thread::Threads;
