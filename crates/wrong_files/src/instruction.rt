@@ -118,18 +118,6 @@ pub fn copy_of_another_period(alloc: Global, instruction: &Instruction)
     prove!(right != wrong);
 }
 
-/// A copy's targets are the prices.
-pub fn copy_without_targets(alloc: Global, assortment: &Assortment)
-    requires { assortment.now.targets ≢ assortment.now.prices }
-{
-    let Ok(copy) = assortment.copy(alloc) else {
-        return;
-    };
-    let right = copy.targets();
-    let wrong = assortment.prices();
-    prove!(right != wrong);
-}
-
 /// A trim allowance of 1 mm is left out of a text.
 #[tactic(auto, unfolding(buck_record::specs::bytes::Record::numbers_of, buck_record::specs::bytes::Record::number_at_most, buck_record::specs::bytes::Record::item_of, buck_record::specs::bytes::Record::items_of, buck_record::specs::bytes::White::words, buck_record::specs::bytes::White::first_word, buck_record::specs::bytes::White::after_word, buck_record::specs::bytes::White::trim_start, buck_record::specs::bytes::White::trim_end, buck_record::specs::Reading::each_from, buck_record::specs::checking::Table::rest_in, buck_record::specs::checking::Table::groups_of, buck_record::specs::checking::Rules::numbers_in, buck_record::specs::checking::Check::each, buck_record::specs::checking::Check::make_each, buck_apt::specs::Apt::apt_of, buck_apt::specs::Apt::draft_in, buck_apt::specs::Apt::within_limits, buck_apt::specs::Apt::group_present, buck_apt::specs::Apt::present, buck_apt::specs::Apt::group_single, buck_apt::specs::Apt::single, buck_apt::specs::Apt::numbers_or, buck_apt::specs::Apt::draft_of, buck_apt::specs::Apt::file_draft_of, buck_apt::specs::Apt::draft_range, buck_apt::specs::Apt::in_range, buck_apt::specs::Apt::draft_order, buck_apt::specs::Apt::in_order, buck_apt::specs::Apt::draft_count, buck_apt::specs::Apt::in_number, buck_apt::specs::Apt::on_module, buck_apt::specs::Apt::in_targets, buck_record::specs::writing::Written::spaced, buck_apt::specs::Text::wood_text, buck_apt::specs::Text::sizes_text, buck_apt::specs::Text::tables_text, buck_apt::specs::Text::assortment_text, buck_apt::specs::Text::text_of))]
 pub fn text_without_a_trim_of_1(alloc: Global) {

@@ -1,0 +1,13 @@
+use Rattle.std.proofs.Common.{◌≡◌, ◌++◌, drop}
+use Rattle.std.specs.List.{AllByRecursion}
+use Rattle.buck_apt.specs.Changed.{each_with}
+use Rattle.buck_apt.specs.Instruction.{IsAssortment}
+use Rattle.buck_apt.specs.inner.Change.{changed}
+use Rattle.buck_apt.proofs.instruction.each_changed.Given as goal
+
+abbrev pub invariant-loop-assortment : goal.invariant-loop-assortment
+invariant-loop-assortment l = record {
+  made : l.made.items ++ each_with (changed l.change) l.rest (drop l.assortment-index l.assortments)
+      ≡ each_with (changed l.change) l.fn.numbers l.assortments;
+  valid : AllByRecursion IsAssortment (each_with (changed l.change) l.rest (drop l.assortment-index l.assortments));
+}
