@@ -1,5 +1,5 @@
 -- The draft of an instruction's items is that which says it.
-use Rattle.std.proofs.Common.{◌≡◌, ℕ, ◌+◌, ◌≤◌, ◌==◌, true, List, [], ◌∷◌, ◌++◌, Ok, length, map, refl, sym, ap, arith, inl, inr, eqb-true, cond, nat_lt, None}
+use Rattle.std.proofs.Common.{◌≡◌, ℕ, ◌+◌, ◌≤◌, ◌==◌, true, List, [], ◌∷◌, ◌++◌, Ok, length, map, refl, sym, ap, arith, inl, inr, eqb-true, cond, nat_lt}
 use Rattle.std.specs.List.{AllByRecursion, flat_map, before_first}
 use Rattle.std.proofs.lemmas.Bool.{cases_Bool, lt-ltb}
 use Rattle.std.proofs.lemmas.List.Sums.{sum_by-append}
@@ -7,15 +7,17 @@ use Rattle.std.proofs.lemmas.List.Elements.{recursion_from_All}
 use Rattle.buck_record.specs.Item.{ItemParts}
 use Rattle.buck_record.specs.declared.slot.Slot.{Slot}
 use Rattle.buck_record.specs.bytes.Record.{numbers_of}
-use Rattle.buck_record.specs.checking.Table.{is_at, count_in, first_missing, first_twice}
+use Rattle.buck_record.specs.checking.Table.{is_at, count_in}
 unfoldable use Rattle.buck_record.specs.checking.Table.{rest_in, groups_of}
 unfoldable use Rattle.buck_record.specs.checking.Check.{each, make_each}
 unfoldable use Rattle.buck_record.specs.checking.Rules.{numbers_in}
 use Rattle.buck_record.specs.checking.Rules.{file_slot, has_no_strays}
+use Rattle.std.specs.Prelude.{Result}
+use Rattle.buck_apt.specs.declared.fault.AptFault.{AptFault}
 use Rattle.buck_apt.specs.declared.fault.AptFault.TheVariants.{Digits}
-use Rattle.buck_apt.specs.declared.slots.TheConstants.{HEAD, ALONE, IN_ASSORTMENT, MODULE, PERIOD, LIMIT, COUNT, NAME, TRIM}
+use Rattle.buck_apt.specs.declared.slots.TheConstants.{IN_ASSORTMENT, MODULE, PERIOD, LIMIT, COUNT, NAME, TRIM}
 use Rattle.buck_apt.specs.Instruction.{AssortmentParts, InstructionParts, IsAssortment, IsInstruction}
-use Rattle.buck_apt.specs.Apt.{groups, says_apt, begins_with_name}
+use Rattle.buck_apt.specs.Apt.{groups, begins_with_name}
 unfoldable use Rattle.buck_apt.specs.Apt.{group_present, present, group_single, single, numbers_or, draft_of, file_draft_of, draft_in}
 use Rattle.buck_record.specs.writing.Written.{blank, row_start}
 use Rattle.buck_apt.proofs.Items.{assortment_items, items_in, draft_for, file_draft_for}
@@ -154,12 +156,6 @@ module _ (i : InstructionParts) (h : IsInstruction i) where
       none_before [] = refl
       none_before (a ∷ rest) = refl
 
-  head_there : first_missing HEAD (items_in i) ≡ None
-  head_there = rw (counts.1, counts.2, counts.3, counts.4) refl
-
-  head_single : first_twice ALONE (items_in i) ≡ None
-  head_single = rw (counts.0, counts.1, counts.2, counts.3, counts.4) refl
-
   no_strays : has_no_strays NAME IN_ASSORTMENT (items_in i) ≡ true
   unfolding head_items
   no_strays = rw before_all refl
@@ -175,29 +171,32 @@ unfolding make_each
 drafts_again [] h = refl
 drafts_again (a ∷ rest) h = rw (draft_again a h.0, drafts_again rest h.1) refl
 
-all_present : (rest : List AssortmentParts) → AllByRecursion IsAssortment rest
-    → each group_present (map assortment_items rest) ≡ Ok tt
+-- a check of each that passes
+pub each_passes : {X : Type 0} (f : X → Result (Unit {0}) AptFault) (g : AssortmentParts → X)
+    (rest : List AssortmentParts) → AllByRecursion (λ a. f (g a) ≡ Ok tt) rest → each f (map g rest) ≡ Ok tt
 unfolding each
-all_present [] h = refl
-all_present (a ∷ rest) h = rw (present_again a h.0, all_present rest h.1) refl
+each_passes f g [] h = refl
+each_passes f g (a ∷ rest) h = rw (h.0, each_passes f g rest h.1) refl
 
-all_single : (rest : List AssortmentParts) → AllByRecursion IsAssortment rest
-    → each group_single (map assortment_items rest) ≡ Ok tt
-unfolding each
-all_single [] h = refl
-all_single (a ∷ rest) h = rw (single_again a h.0, all_single rest h.1) refl
+pub each_valid : {X : Type 0} (f : X → Result (Unit {0}) AptFault) (g : AssortmentParts → X) (i : InstructionParts)
+    → IsInstruction i → ((a : AssortmentParts) → IsAssortment a → f (g a) ≡ Ok tt) → each f (map g i.assortments) ≡ Ok tt
+each_valid f g i h passes =
+    each_passes f g i.assortments (recursion_from_All _ i.assortments (λ k d lt. passes _ (h.assortments_valid k d lt)))
 
 module _ (i : InstructionParts) (h : IsInstruction i) where
-  valid : AllByRecursion IsAssortment i.assortments
-  valid = recursion_from_All IsAssortment i.assortments h.assortments_valid
-
   all_there : present (items_in i) ≡ Ok tt
   unfolding present
-  all_there = rw (head_there i h, begins i h, groups_in i h, all_present i.assortments valid) refl
+  all_there =
+      let count = counts i h in
+      let each_one = each_valid group_present assortment_items i h present_again in
+      rw (count.1, count.2, count.3, count.4, begins i h, groups_in i h, each_one) refl
 
   once : single (items_in i) ≡ Ok tt
   unfolding single
-  once = rw (head_single i h, groups_in i h, all_single i.assortments valid) refl
+  once =
+      let count = counts i h in
+      let each_one = each_valid group_single assortment_items i h single_again in
+      rw (count.0, count.1, count.2, count.3, count.4, groups_in i h, each_one) refl
 
   -- the numbers of the head
   head_again : (numbers_in Digits MODULE (items_in i) ≡ Ok (i.«module» ∷ []))
@@ -214,13 +213,11 @@ module _ (i : InstructionParts) (h : IsInstruction i) where
 
   file_again : file_draft_of (items_in i) ≡ Ok (file_draft_for i)
   unfolding file_draft_of
-  file_again = rw (head_again.0, head_again.1, head_again.2, head_again.3, groups_in i h, drafts_again i.assortments valid) refl
-
-  says : says_apt (items_in i) ≡ true
-  unfolding rest_in head_items
-  says = refl
+  file_again =
+      let drafts = drafts_again i.assortments (recursion_from_All IsAssortment i.assortments h.assortments_valid) in
+      rw (head_again.0, head_again.1, head_again.2, head_again.3, groups_in i h, drafts) refl
 
   -- the draft of the items
   pub draft_in_again : draft_in (items_in i) ≡ Ok (file_draft_for i)
-  unfolding draft_in
-  draft_in_again = rw (says, all_there, once, file_again) refl
+  unfolding draft_in rest_in head_items
+  draft_in_again = rw (all_there, once, file_again) refl

@@ -31,18 +31,6 @@ pub row_white : (columns : ℕ) → AreWhite (row_start columns)
 row_white columns k =
     elim (cases_Bool (k % columns == 0)) [ inl start ↦ rw start refl | inr other ↦ rw other refl ]
 
--- the heads of items, in digits
-heads_are : (codes "1 2" ≡ decimal 1 ++ 32 ∷ decimal 2)
-    × (codes "901 1" ≡ decimal 901 ++ 32 ∷ decimal 1) × (codes "902 1" ≡ decimal 902 ++ 32 ∷ decimal 1)
-    × (codes "903 1" ≡ decimal 903 ++ 32 ∷ decimal 1) × (codes "910 1" ≡ decimal 910 ++ 32 ∷ decimal 1)
-    × (codes "911 1" ≡ decimal 911 ++ 32 ∷ decimal 1) × (codes "912 1" ≡ decimal 912 ++ 32 ∷ decimal 1)
-    × (codes "913 1" ≡ decimal 913 ++ 32 ∷ decimal 1) × (codes "914 1" ≡ decimal 914 ++ 32 ∷ decimal 1)
-    × (codes "915 1" ≡ decimal 915 ++ 32 ∷ decimal 1) × (codes "915 2" ≡ decimal 915 ++ 32 ∷ decimal 2)
-    × (codes "916 1" ≡ decimal 916 ++ 32 ∷ decimal 1) × (codes "917 1" ≡ decimal 917 ++ 32 ∷ decimal 1)
-    × (codes "918 1" ≡ decimal 918 ++ 32 ∷ decimal 1) × (codes "919 1" ≡ decimal 919 ++ 32 ∷ decimal 1)
-unfolding digits
-heads_are = (refl, refl, refl, refl, refl, refl, refl, refl, refl, refl, refl, refl, refl, refl, refl)
-
 -- the line of an item of numbers, before the items of another text
 numbers_say : (white : ℕ → ℕ) → AreWhite white → (s : Slot) → s.number ≤ 65535 → s.kind ≤ 65535 → (head ns : List ℕ)
     → head ≡ decimal s.number ++ 32 ∷ decimal s.kind → 0 < length ns → AreSmall ns
@@ -71,12 +59,13 @@ name_said a h =
 
 trim_says : (trim : ℕ) → trim ≤ 200 → (more : List ℕ) (items : List ItemParts) → HasItems more items
     → HasItems (trim_text trim ++ more) (trim_items trim ++ items)
+unfolding digits
 trim_says trim le more items has =
     elim (cases_Bool (trim == 0)) [
       | inl none ↦ rw none has
       | inr some ↦
           rw some
-          (numbers_say blank blank_white TRIM (omega arith) (omega arith) (codes "919 1") (trim ∷ []) heads_are.14
+          (numbers_say blank blank_white TRIM (omega arith) (omega arith) (codes "919 1") (trim ∷ []) refl
           (omega arith) (omega arith, tt) more items has)
     ]
 
@@ -92,7 +81,7 @@ classes_some a h = let r = h.rows in let c = h.columns in grind arith
 module _ (a : AssortmentParts) (h : IsAssortment a) where
   assortment_says : (more : List ℕ) (items : List ItemParts) → HasItems more items
       → HasItems (assortment_text a ++ more) (assortment_items a ++ items)
-  unfolding assortment_text wood_text sizes_text tables_text member_items
+  unfolding assortment_text wood_text sizes_text tables_text member_items digits
   assortment_says more items has =
       let rows : AreWhite (row_start (length a.lengths)) = row_white (length a.lengths) in
       subst (λ text. HasItems text (assortment_items a ++ items))
@@ -101,24 +90,24 @@ module _ (a : AssortmentParts) (h : IsAssortment a) where
       (list_text (codes "915 1") a.diameters) (list_text (codes "915 2") (a.upper ∷ []))
       (list_text (codes "916 1") a.lengths) (table_text (codes "917 1") (length a.lengths) a.prices)
       (table_text (codes "918 1") (length a.lengths) a.targets) (trim_text a.trim) more)
-      (line_says NAME (omega arith) (omega arith) 32 refl a.name (name_said a h) (codes "911 1") _ _ heads_are.5
-      (numbers_say blank blank_white SPECIES (omega arith) (omega arith) (codes "912 1") (a.species ∷ []) heads_are.6
+      (line_says NAME (omega arith) (omega arith) 32 refl a.name (name_said a h) (codes "911 1") _ _ refl
+      (numbers_say blank blank_white SPECIES (omega arith) (omega arith) (codes "912 1") (a.species ∷ []) refl
       (omega arith) (let s = h.species in (omega arith, tt)) _ _
-      (numbers_say blank blank_white GRADES (omega arith) (omega arith) (codes "913 1") a.grades heads_are.7
+      (numbers_say blank blank_white GRADES (omega arith) (omega arith) (codes "913 1") a.grades refl
       (let s = h.grades_number in omega arith) (small_within 1 8 (omega arith) a.grades h.grades_range) _ _
       (numbers_say blank blank_white PRICE_KIND (omega arith) (omega arith) (codes "914 1") (a.price_kind ∷ [])
-      heads_are.8 (omega arith) (let s = h.price_kind in (omega arith, tt)) _ _
-      (numbers_say blank blank_white DIAMETERS (omega arith) (omega arith) (codes "915 1") a.diameters heads_are.9
+      refl (omega arith) (let s = h.price_kind in (omega arith, tt)) _ _
+      (numbers_say blank blank_white DIAMETERS (omega arith) (omega arith) (codes "915 1") a.diameters refl
       (let s = h.rows in omega arith) (small_from 1500 (omega arith) a.diameters h.diameters_range) _ _
-      (numbers_say blank blank_white UPPER (omega arith) (omega arith) (codes "915 2") (a.upper ∷ []) heads_are.10
+      (numbers_say blank blank_white UPPER (omega arith) (omega arith) (codes "915 2") (a.upper ∷ []) refl
       (omega arith) (let s = h.upper_range in (omega arith, tt)) _ _
-      (numbers_say blank blank_white LENGTHS (omega arith) (omega arith) (codes "916 1") a.lengths heads_are.11
+      (numbers_say blank blank_white LENGTHS (omega arith) (omega arith) (codes "916 1") a.lengths refl
       (let s = h.columns in omega arith) (small_within 500 30000 (omega arith) a.lengths h.lengths_range) _ _
       (numbers_say (row_start (length a.lengths)) rows PRICES (omega arith) (omega arith) (codes "917 1") a.prices
-      heads_are.12 (omega (arith, classes_some a h, h.prices_number))
+      refl (omega (arith, classes_some a h, h.prices_number))
       (small_from 10000000 (omega arith) a.prices h.prices_range) _ _
       (numbers_say (row_start (length a.lengths)) rows TARGETS (omega arith) (omega arith) (codes "918 1") a.targets
-      heads_are.13 (omega (arith, classes_some a h, h.targets_number))
+      refl (omega (arith, classes_some a h, h.targets_number))
       (small_from 1000000 (omega arith) a.targets h.targets_range) _ _
       (trim_says a.trim h.trim_range more items has))))))))))
 
@@ -140,7 +129,7 @@ regroup_head : (a b c d e more : List ℕ)
 regroup_head a b c d e more = simp append_assoc
 
 has_items : (i : InstructionParts) → IsInstruction i → HasItems (text_of i) (items_in i)
-unfolding text_of head_items
+unfolding text_of head_items digits
 has_items i h =
     let last : List ℕ = flat_map assortment_text i.assortments in
     let count : List ℕ = list_text (codes "910 1") (length i.assortments ∷ []) ++ last in
@@ -151,15 +140,15 @@ has_items i h =
     (regroup_head (item_text (codes "1 2") (32 ∷ codes "APT")) (list_text (codes "901 1") (i.«module» ∷ []))
     (list_text (codes "902 1") (i.period ∷ [])) (list_text (codes "903 1") (i.limit ∷ []))
     (list_text (codes "910 1") (length i.assortments ∷ [])) last)
-    (line_says file_slot (omega arith) (omega arith) 32 refl (codes "APT") apt_plain (codes "1 2") step _ heads_are.0
-    (numbers_say blank blank_white MODULE (omega arith) (omega arith) (codes "901 1") (i.«module» ∷ []) heads_are.1
+    (line_says file_slot (omega arith) (omega arith) 32 refl (codes "APT") apt_plain (codes "1 2") step _ refl
+    (numbers_say blank blank_white MODULE (omega arith) (omega arith) (codes "901 1") (i.«module» ∷ []) refl
     (omega arith) (let s = h.module_range in (omega arith, tt)) period _
-    (numbers_say blank blank_white PERIOD (omega arith) (omega arith) (codes "902 1") (i.period ∷ []) heads_are.2
+    (numbers_say blank blank_white PERIOD (omega arith) (omega arith) (codes "902 1") (i.period ∷ []) refl
     (omega arith) (let s = h.period_range in (omega arith, tt)) limit _
-    (numbers_say blank blank_white LIMIT (omega arith) (omega arith) (codes "903 1") (i.limit ∷ []) heads_are.3
+    (numbers_say blank blank_white LIMIT (omega arith) (omega arith) (codes "903 1") (i.limit ∷ []) refl
     (omega arith) (let s = h.limit_range in (omega arith, tt)) count _
     (numbers_say blank blank_white COUNT (omega arith) (omega arith) (codes "910 1") (length i.assortments ∷ [])
-    heads_are.4 (omega arith) (let s = h.assortments_number in (omega arith, tt)) last _
+    refl (omega arith) (let s = h.assortments_number in (omega arith, tt)) last _
     (assortments_say i.assortments (recursion_from_All IsAssortment i.assortments h.assortments_valid)))))))
 
 -- the items of the text are those that were written

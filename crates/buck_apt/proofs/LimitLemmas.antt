@@ -1,6 +1,6 @@
 -- The draft that says a valid instruction passes all lines of refusals, and the text of the instruction is read again.
 use Rattle.std.proofs.Common.{◌≡◌, ℕ, ◌+◌, ◌*◌, ◌<◌, ◌≤◌, ◌%◌, ◌==◌, ◌++◌, ◌∙◌, filter, inl, inr, Bool, true, false, List, [], ◌∷◌, All, Ok, None, length, map, sum, slice_index, refl, sym, ap, arith, eq-eqb, nat_lt, add-one, subst}
-use Rattle.std.specs.Prelude.{position, Result}
+use Rattle.std.specs.Prelude.{position}
 use Rattle.std.specs.List.{AllByRecursion, list_all, position_or_len, flat_map}
 use Rattle.std.specs.List.Sorted.{IsStrictlyIncreasing}
 use Rattle.std.proofs.lemmas.Bool.{cases_Bool, le-leb, lt-ltb, le-ltb, and_from, cond-false}
@@ -8,9 +8,7 @@ use Rattle.std.proofs.lemmas.Bool.Decides.{nat_tests}
 use Rattle.std.proofs.lemmas.List.{length-map}
 use Rattle.std.proofs.lemmas.List.Elements.{recursion_from_All, filter-append}
 use Rattle.std.proofs.lemmas.List.Sums.{list_all-from_AllPass}
-unfoldable use Rattle.buck_record.specs.checking.Check.{each}
 use Rattle.buck_record.specs.checking.Rules.{within, all_within, is_rising}
-use Rattle.buck_apt.specs.declared.fault.AptFault.{AptFault}
 use Rattle.buck_apt.specs.declared.fault.AptFault.TheVariants.{Module}
 use Rattle.buck_apt.specs.declared.slots.TheConstants.{LONGEST_NAME, MOST_GRADES, MOST_ROWS, MOST_COLUMNS, MOST_TARGETS_TOGETHER}
 use Rattle.buck_apt.specs.declared.draft.Draft.{Draft}
@@ -22,7 +20,7 @@ use Rattle.buck_apt.proofs.Items.{assortment_items, items_in, draft_for, file_dr
 unfoldable use Rattle.buck_apt.proofs.Items.{member_items, head_items}
 use Rattle.buck_record.specs.checking.Table.{is_in}
 use Rattle.buck_apt.proofs.ItemLemmas.{items_again}
-use Rattle.buck_apt.proofs.DraftLemmas.{draft_in_again}
+use Rattle.buck_apt.proofs.DraftLemmas.{draft_in_again, each_passes, each_valid}
 
 within_from : (low high n : ℕ) → IsWithin low high n → within low high n ≡ true
 within_from low high n h = and_from _ _ (le-leb low n h.0) (le-leb n high h.1)
@@ -101,12 +99,6 @@ off_none : (step : ℕ) (lengths : List ℕ) → AllByRecursion (λ l. l % step 
 off_none step [] h = refl
 off_none step (l ∷ ls) h = rw (eq-eqb (l % step) 0 h.0) (off_none step ls h.1)
 
-each_draft : (f : Draft → Result (Unit {0}) AptFault) (rest : List AssortmentParts)
-    → AllByRecursion (λ a. f (draft_for a) ≡ Ok tt) rest → each f (map draft_for rest) ≡ Ok tt
-unfolding each
-each_draft f [] h = refl
-each_draft f (a ∷ rest) h = rw (h.0, each_draft f rest h.1) refl
-
 too_many : Draft → Bool
 too_many d = nat_lt MOST_TARGETS_TOGETHER (sum d.targets)
 
@@ -129,12 +121,6 @@ said_back [] = refl
 said_back (a ∷ rest) = ap (λ xs. a ∷ xs) (said_back rest)
 
 module _ (i : InstructionParts) (h : IsInstruction i) where
-  each_valid : (f : Draft → Result (Unit {0}) AptFault) → ((a : AssortmentParts) → IsAssortment a → f (draft_for a) ≡ Ok tt)
-      → each f (map draft_for i.assortments) ≡ Ok tt
-  each_valid f passes =
-      each_draft f i.assortments
-      (recursion_from_All _ i.assortments (λ k d lt. passes _ (h.assortments_valid k d lt)))
-
   ranges_again : in_range (file_draft_for i) ≡ Ok tt
   unfolding in_range
   ranges_again =
@@ -143,22 +129,22 @@ module _ (i : InstructionParts) (h : IsInstruction i) where
         one_within 1 1000 i.period h.period_range,
         one_within 0 1000 i.limit (omega arith, h.limit_range),
         one_within 1 16 (length i.assortments) h.assortments_number,
-      ) (each_valid draft_range range_again)
+      ) (each_valid draft_range draft_for i h range_again)
 
   orders_again : in_order (file_draft_for i) ≡ Ok tt
   unfolding in_order
-  orders_again = each_valid draft_order order_again
+  orders_again = each_valid draft_order draft_for i h order_again
 
   counts_again : in_number (file_draft_for i) ≡ Ok tt
   unfolding in_number
   counts_again =
       rw (eq-eqb (length i.assortments) (length (map draft_for i.assortments)) (sym (length-map i.assortments draft_for)))
-      (each_valid draft_count count_again)
+      (each_valid draft_count draft_for i h count_again)
 
   steps_again : on_module (file_draft_for i) ≡ Ok tt
   unfolding on_module
   steps_again =
-      each_draft (λ d. none_found (first_off_module i.«module» d.lengths) Module) i.assortments
+      each_passes (λ d. none_found (first_off_module i.«module» d.lengths) Module) draft_for i.assortments
       (recursion_from_All _ i.assortments
       (λ k d lt. ap (λ o. none_found o Module)
       (off_none i.«module» _ (recursion_from_All (λ l. l % i.«module» ≡ 0) _ (h.on_module k d lt)))))

@@ -1,14 +1,15 @@
 -- What the lines of refusals that passed say: the numbers are within the limits.
-use Rattle.std.proofs.Common.{◌≡◌, ◌≢◌, ℕ, ◌*◌, ◌<◌, ◌≤◌, Bool, true, false, not, List, [], ◌∷◌, ◌==◌, Ok, Option, Some, None, length, sum, slice_index, refl, sym, ◌∙◌, arith, eqb-true, All, zero, suc, add-one, inl, inr, nat_lt, nat_le}
+use Rattle.std.proofs.Common.{◌≡◌, ℕ, ◌*◌, ◌<◌, ◌≤◌, Bool, true, false, not, List, [], ◌∷◌, ◌==◌, Ok, Option, Some, None, length, sum, slice_index, refl, sym, ◌∙◌, arith, eqb-true, All, zero, suc, add-one, inl, inr, nat_lt}
 use Rattle.std.proofs.Common.{◌%◌}
 use Rattle.std.specs.Prelude.{position, find}
 use Rattle.std.specs.List.{AllByRecursion, list_all}
 use Rattle.std.specs.List.Sorted.{IsStrictlyIncreasing}
+use Rattle.std.proofs.lemmas.Bool.Decides.{nat_tests}
 use Rattle.std.proofs.lemmas.List.Elements.{All-from_recursion, All-map}
 use Rattle.std.proofs.lemmas.List.{length-map}
 use Rattle.std.proofs.lemmas.List.Sums.{AllPass-from_list_all, fails_before_first}
 use Rattle.buck_record.proofs.TableLemmas.{place-none}
-use Rattle.std.proofs.lemmas.Bool.{false≢true, ltb-true, ltb-false, leb-true, eqb-false, cases_Bool, cond-true, cond-false}
+use Rattle.std.proofs.lemmas.Bool.{false≢true, ltb-true, ltb-false, cases_Bool, cond-true, cond-false}
 use Rattle.buck_record.specs.declared.slot.Slot.{Slot}
 use Rattle.buck_record.specs.checking.Rules.{one_to, is_rising}
 use Rattle.buck_record.proofs.PassLemmas.{AreRanged, passed, check_ok, then_ok, each_ok, both, within_ok, in_range_ok, ranged, counted_ok, counted}
@@ -35,23 +36,12 @@ one_of item ns h one = h 0 0 (omega arith)
 one_number : (ns : List ℕ) → (1 ≤ length ns) × (length ns ≤ 1) → length ns ≡ 1
 one_number ns h = omega (arith, h)
 
-not_true : (b : Bool) → not b ≡ true → b ≡ false
-not_true true h = absurd (false≢true h)
-not_true false h = refl
-
 not_false : (b : Bool) → not b ≡ false → b ≡ true
 not_false true h = refl
 not_false false h = absurd (false≢true (sym h))
 
-differs : (a b : ℕ) → not (a == b) ≡ true → a ≢ b
-differs a b h = λ e. eqb-false a b (not_true _ h) e
-
 name_byte_ok : (b : ℕ) → is_name_byte b ≡ true → IsNameByte b
-name_byte_ok b h =
-    let p = both (nat_le 32 b) _ h in
-    let q = both (not (b == 124)) _ p.1 in
-    let r = both (not (b == 126)) _ q.1 in
-    (leb-true _ _ p.0, differs b 124 q.0, differs b 126 r.0, differs b 127 r.1)
+name_byte_ok b h = grind (arith, nat_tests)
 
 rising_at : (ns : List ℕ) → is_rising ns ≡ true → (k : ℕ) → suc k < length ns
     → slice_index ns k < slice_index ns (suc k)
@@ -205,17 +195,20 @@ module_single s ranged counted = (head_ready s ranged counted).«module»
 pub module_above_zero : (s : FileDraft) → in_range s ≡ Ok tt → in_number s ≡ Ok tt → 0 < slice_index s.«module» 0
 module_above_zero s ranged counted = let head = head_ready s ranged counted in omega (arith, head.module_range)
 
--- a file that passed each of the last five lines
-each_line_ready : (s : FileDraft) → AreNamed s → in_range s ≡ Ok tt → in_order s ≡ Ok tt → in_number s ≡ Ok tt → on_module s ≡ Ok tt
-    → in_targets s ≡ Ok tt → IsReadyFile s
-unfolding in_order on_module in_targets
-each_line_ready s named ranged ordered counted stepped wanted =
+-- a file that passed the last five lines
+file_ready : (s : FileDraft) → AreNamed s → within_limits s ≡ Ok tt → IsReadyFile s
+unfolding within_limits in_order on_module in_targets
+file_ready s named passes =
+    let ranged = then_ok (in_range s) _ passes in
+    let ordered = then_ok (in_order s) _ ranged.1 in
+    let counted = then_ok (in_number s) _ ordered.1 in
+    let stepped = then_ok (on_module s) _ counted.1 in
     let names = All-from_recursion IsNamed s.drafts named in
-    let head = head_ready s ranged counted in
-    let orders = each_ok draft_order s.drafts ordered in
+    let head = head_ready s ranged.0 counted.0 in
+    let orders = each_ok draft_order s.drafts ordered.0 in
     let few =
     position_none (λ d. nat_lt MOST_TARGETS_TOGETHER (sum d.targets)) s.drafts
-    (none_found_ok _ Targets wanted) in
+    (none_found_ok _ Targets stepped.1) in
     let ready : All IsReadyDraft s.drafts =
     λ k d lt. draft_ready _ (names k d lt) (head.ranges k d lt) (orders k d lt) (head.counts k d lt)
     (ltb-false _ _ (few k d lt)) in
@@ -232,19 +225,9 @@ each_line_ready s named ranged ordered counted stepped wanted =
         assortments_valid = All-map IsAssortment assortment_of s.drafts (λ k d lt. (ready k d lt).valid);
         on_module =
             All-map (λ a. IsOnModule (slice_index s.«module» 0) a) assortment_of s.drafts
-            (λ k d lt. lengths_ok (slice_index s.«module» 0) _ (each_ok _ s.drafts stepped k d lt));
+            (λ k d lt. lengths_ok (slice_index s.«module» 0) _ (each_ok _ s.drafts stepped.0 k d lt));
       };
     }
-
--- a file that passed them in one chain
-file_ready : (s : FileDraft) → AreNamed s → within_limits s ≡ Ok tt → IsReadyFile s
-unfolding within_limits
-file_ready s named passes =
-    let ranged = then_ok (in_range s) _ passes in
-    let ordered = then_ok (in_order s) _ ranged.1 in
-    let counted = then_ok (in_number s) _ ordered.1 in
-    let stepped = then_ok (on_module s) _ counted.1 in
-    each_line_ready s named ranged.0 ordered.0 counted.0 stepped.0 stepped.1
 
 -- the file of the items of some bytes
 pub items_ready : (s : FileDraft) (bytes : List ℕ) (items : List ItemParts)
