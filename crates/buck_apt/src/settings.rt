@@ -44,6 +44,7 @@ impl Settings {
     /// period isn't from 1 to 1,000 or the limit is above 1,000.
     pub fn of(period: Option<u32>, limit: Option<u32>) -> Option<Settings>
         ensures some { IfSome result (λ s. s ≡ record { period = period; limit = limit }) }
+        ensures valid { IfSome result IsSettings }
         ensures none { IfNone result (IsSettings (record { period = period; limit = limit }) → ⊥) }
     {
         if let Some(period) = period {
