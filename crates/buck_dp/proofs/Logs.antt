@@ -41,8 +41,7 @@ module _ (p : GroundParts) (valid : IsSheet p.sheet) where
       → (log_at p high i ≡ log_at p low i) ⊎ IsLogBefore (log_at p high i) (log_at p low i)
   unfolding log_at
   ranks_before are i high low le most rank =
-      let order = are.order (HIGHEST_RANK - high) (HIGHEST_RANK - low) (omega arith) rank.1 in
-      grind (arith, order, (same_log (log_at p high i) (log_at p low i)), cases_order)
+      grind (arith, are.order, (same_log (log_at p high i) (log_at p low i)), cases_order)
 
   pos : 0 < unit
   pos = omega (arith, valid.valid.module_range)
@@ -66,7 +65,7 @@ module _ (p : GroundParts) (valid : IsSheet p.sheet) where
       let some : 0 < n = one_step g.length unit (omega (arith, low.0)) on in
       let top : top_of g ≡ (i + n) * unit = omega (arith, at, whole_steps g.length unit on, add-mul i n unit) in
       let o : Offer = offer_of g.length g.assortment in
-      let found = (are.all o).1 (a.assortment, a.exists, a.allows.length_offered) in
+      let found = (are.all o).1 (search rules) in
       let rank : ℕ = HIGHEST_RANK - found.0 in
       let place : HIGHEST_RANK - rank ≡ found.0 = omega (arith, found.1, are.few) in
       let own : offer_at p.menu.offers.items rank ≡ o =
@@ -173,12 +172,5 @@ module _ (p : GroundParts) (valid : IsSheet p.sheet) where
             let c : Cell = m.0 in
             let cell = All-contains is_cell row c drawn.real m.1 in
             let rise = after_in_order unit c.trim trim pos m.3 in
-            record {
-              place = m.1.0;
-              cell = c;
-              there = place_of row c m.1;
-              fits = omega (arith, b.0, m.3);
-              serves = m.2;
-              leaves = omega (arith, b.1, cell.rise);
-            };
+            (m.1.0, c, place_of row c m.1, omega (arith, b.0, m.3), m.2, omega (arith, b.1, cell.rise));
       }

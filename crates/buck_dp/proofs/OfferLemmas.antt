@@ -40,10 +40,7 @@ module _ {p : GroundParts} {v w : List BidParts} {ch : List ℕ} {t stop i e : �
     within = was.within;
     number = offered.number ∙ was.number;
     room = was.room;
-    low = λ k lt. elim (which k) [
-      | inl same ↦ rw same (was.low k lt)
-      | inr new ↦ rw (new.0, new.1) (omega (arith, log_low p i t e bid was.valid log, was.low e log.last))
-    ];
+    low = λ k lt. grind (arith, (which k), (was.low k lt), (log_low p i t e bid was.valid log), (was.low e log.last));
     settled = λ k le. search (rules, settled_same, stays, was.settled);
     each = λ k j x b lt le which l.
         rw (stays x (omega (arith, l.order))) (reaches_still k _ (was.each k j x b lt le which l));
@@ -133,25 +130,24 @@ module _ {p : GroundParts} {ch : List ℕ} {t first stop n : ℕ} {cells : List 
       → Reaches v i (plus bid (bid_at v e))
   reached i e bid low lt log =
       let s = was.part.served i e bid low lt log in
-      let start : ℕ = t - s.cell.steps in
-      let is : start + s.cell.steps ≡ t = omega (arith, s.serves, log.later) in
-      let le : i ≤ start = omega (arith, s.serves, log.later) in
-      let own = was.part.real s.place s.cell s.there s.fits i start low lt le is in
-      let less = (was.search.settled (t + s.cell.rise) own.order).falls e s.leaves in
-      let at : Reaches v start (plus s.cell.bid (bid_at v (t + s.cell.rise))) =
+      let start : ℕ = t - s.1.steps in
+      let is : start + s.1.steps ≡ t = omega (arith, s.4, log.later) in
+      let le : i ≤ start = omega (arith, s.4, log.later) in
+      let own = was.part.real s.0 s.1 s.2 s.3 i start low lt le is in
+      let less = (was.search.settled (t + s.1.rise) own.order).falls e s.5 in
+      let at : Reaches v start (plus s.1.bid (bid_at v (t + s.1.rise))) =
       elim (cases_lt start stop) [
         | inl near ↦
-            inl (was.done s.place s.cell (omega (arith, all, slice_get_within cells s.place s.cell s.there)) s.there
-            (omega (arith, le, is, low), omega (arith, near, is), s.fits) start is)
-        | inr far ↦ was.search.each start t (t + s.cell.rise) s.cell.bid own.later (omega arith) (inr far) own
+            inl (was.done s.0 s.1 (omega (arith, all, slice_get_within cells s.0 s.1 s.2)) s.2
+            (omega (arith, le, is, low), omega (arith, near, is), s.3) start is)
+        | inr far ↦ was.search.each start t (t + s.1.rise) s.1.bid own.later (omega arith) (inr far) own
       ] in
       elim at [
-        | inr more ↦ inr (more.0, omega (arith, le, more.1), omega (arith, s.serves, more.2))
-        | inl here ↦ elim s.serves [
+        | inr more ↦ inr (more.0, omega (arith, le, more.1), omega (arith, s.4, more.2))
+        | inl here ↦ elim s.4 [
           | inl same ↦
               let at_start : i ≡ start = omega (arith, same.0, log.later) in
-              let more = plus_more bid s.cell.bid (bid_at v e) (bid_at v (t + s.cell.rise)) same.1 less in
-              inl (rw at_start (IsAtMost-trans _ _ _ more here))
+              inl (rw at_start (search (rules, plus_more, less, IsAtMost-trans, here, same)))
           | inr later ↦ inr (start, omega (arith, later.0, log.later), grind arith)
         ]
       ]

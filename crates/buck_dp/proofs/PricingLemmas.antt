@@ -50,12 +50,10 @@ offer_real {i} {offers} {place} are lt = (are.all _).0 (Contains-get_or offers p
 
 -- an instruction has few classes
 pub classes_few : (i : InstructionParts) → IsInstruction i → classes i ≤ 16384
-classes_few i valid = omega (
-  arith,
-  sum_by-le classes_of 1024 i.assortments (All-weaker IsAssortment (λ a. classes_of a ≤ 1024)
-      (λ a v. mul-le-mul v.rows.1 v.columns.1) i.assortments valid.assortments_valid),
-  valid.assortments_number,
-)
+classes_few i valid =
+    let each = All-weaker IsAssortment (λ a. classes_of a ≤ 1024) (λ a v. mul-le-mul v.rows.1 v.columns.1) i.assortments
+    valid.assortments_valid in
+    omega (arith, sum_by-le classes_of 1024 i.assortments each, valid.assortments_number)
 
 module _ {i : InstructionParts} {offers : List Offer} {band : Band} {place : ℕ} {terms : List Term}
     (are : AreOffers i offers) (lt : place < length offers) (were : AreTerms i offers band place terms) where
@@ -71,13 +69,8 @@ module _ {i : InstructionParts} {offers : List Offer} {band : Band} {place : ℕ
       → AreTerms i offers band (place + 1) terms
   none_put x exists none = record {
     real = were.real;
-    met = λ version prices valid takers steps trim d bid asked past b. elim (cases_lt HIGHEST_RANK (bid.rank + place)) [
-      | inl before ↦ were.met version prices valid takers steps trim d bid asked before b
-      | inr now ↦
-          let e = own bid.rank (omega arith) in
-          let same = same_Some b.assortment x (rw e at (sym b.exists) ∙ exists) in
-          absurd (none d asked (rw (e, same) at b.priced))
-    ];
+    met = λ version prices valid takers steps trim d bid asked past b.
+        grind (arith, (were.met version prices valid takers steps trim d bid asked), (own bid.rank), b, same_Some, none);
   }
 
   -- its term is put behind the others

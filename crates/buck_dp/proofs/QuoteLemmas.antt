@@ -1,11 +1,9 @@
 -- Price lists that grow, and rows drawn from them.
-use Rattle.buck_value.specs.Volume.{worth_at}
-use Rattle.std.proofs.Common.{nat_eq, true, false, if◌then◌else◌}
-use Rattle.buck_dp.proofs.Words.{IsAtMost, IsTied, IsTaker, cases_lt, sym, slice_get-get_or, IsCovered, get_or, rules, ℕ, ◌+◌, ◌*◌, ◌<◌, ◌≤◌, ◌⊎◌, inl, inr, List, [], ◌∷◌, ◌++◌, All, Contains, length, length-map, get_or-map, map, refl}
+use Rattle.std.proofs.Common.{if◌then◌else◌}
+use Rattle.buck_dp.proofs.Words.{IsAtMost, IsTied, IsTaker, slice_get-get_or, IsCovered, get_or, rules, ℕ, ◌+◌, ◌*◌, ◌<◌, ◌≤◌, ◌⊎◌, inl, inr, List, [], ◌∷◌, ◌++◌, All, Contains, length, length-map, get_or-map, map, refl}
 use Rattle.buck_dp.proofs.Words.{subst, ap, ◌∙◌, arith, ne_eqb}
 use Rattle.buck_dp.proofs.Words.{Term, le_of_mul-le-mul_right, mul-le-mul, mul-le-mul_left, mul-le-mul_right, div-mul-le_self, All-map, All-contains, Contains-get_or, volume, SheetParts, IsSheet, Offer, Quote, Ask, quote_bid, quote_at}
-use Rattle.buck_dp.proofs.Words.{IsAsked}
-use Rattle.buck_dp.proofs.Words.{IsSmall, IsQuote, IsLed, IsLeading, IsNext, IsPruned, IsTerm, AreTerms, AreQuotes, cell_of, row_of, IsCell, IsRow, Menu, PriceList, IsMenu, Contains-push, Contains-push_cases, Contains-append_left}
+use Rattle.buck_dp.proofs.Words.{IsAsked, IsSmall, IsQuote, IsLed, IsLeading, IsNext, IsPruned, IsTerm, AreTerms, AreQuotes, cell_of, row_of, IsCell, IsRow, Menu, PriceList, IsMenu, Contains-push, Contains-push_cases, Contains-append_left}
 use Rattle.buck_dp.proofs.ListLemmas.{more_at, place_of}
 use Rattle.buck_dp.proofs.TopLemmas.{IsAtMost-refl, worth_at_most}
 
@@ -29,30 +27,13 @@ led_less ask p q d asked leads led = search (rules, outbid, ne_eqb)
 -- what ties with a quote bids no more
 tied_at_most : (p q : Quote) (d : ℕ) → IsTied p q → IsAtMost (quote_bid q d) (quote_bid p d)
 tied_at_most p q d tied =
-    let worth : ℕ → ℕ = λ price. worth_at q.term.kind price (volume d q.term.length) in
-    let less : worth q.price ≤ worth p.price = elim (nat_eq q.term.kind 1) as (λ b.
-    (if b then q.price * volume d q.term.length else q.price * 1000000)
-    ≤ (if b then p.price * volume d q.term.length else p.price * 1000000)) [
-      | true ↦ mul-le-mul_right (volume d q.term.length) tied.price
-      | false ↦ mul-le-mul_right 1000000 tied.price
-    ] in
-    rw (tied.length, tied.kind) (elim (cases_lt (worth q.price) (worth p.price)) [
-      | inl lt ↦ inl lt
-      | inr ge ↦ inr (omega (arith, less, ge), omega (arith, tied.rank))
-    ])
+    rw (tied.length, tied.kind) (grind (arith, tied.rank, (mul-le-mul_right (volume d q.term.length) tied.price)))
 
 -- what outbids a quote outbids all that tie with it
 led_tied : (q p x : Quote) → IsLed q p → IsTied p x → IsLed q x
 led_tied q p x led tied =
     let price : x.price * p.term.length ≤ p.price * p.term.length = mul-le-mul_right p.term.length tied.price in
-    record {
-      trim = omega (arith, led.trim, tied.trim);
-      steps = omega (arith, led.steps, tied.steps);
-      less = elim led.less [
-        | inl l ↦ inl (l.0, sym tied.kind ∙ l.1, rw (← tied.length) (omega (arith, l.2, price)))
-        | inr l ↦ inr (l.0, λ is. l.1 (tied.kind ∙ is), omega (arith, l.2, tied.price))
-      ];
-    }
+    grind (arith, led, tied, price)
 
 -- a quote is put behind a list, of which only what it outbids was dropped
 pub put_behind : (ask : Ask) (old list : List Quote) (q : Quote) → ((x : Quote) → Contains list x → Contains old x)
@@ -111,21 +92,10 @@ list_right {s} {offers} {ask} {terms = terms} {list} valid are pruned all =
       met = λ steps trim d bid asked b.
           let m = are.met s.version s.prices valid ask.takers steps trim d bid asked (omega (arith, b.rank)) b in
           let q : Quote = quote_at s.prices m.0 in
-          let p = pruned.met m.1.0 m.0 (omega (arith, m.1.1, all)) (place_of terms m.0 m.1) m.2 in (
-            p.0,
-            p.1,
-            grind (
-              arith,
-              p.2,
-              m.3,
-              m.5,
-              led_less ask p.0 q d asked,
-              tied_at_most p.0 q d,
-              worth_at_most,
-              IsAtMost-refl,
-            ),
-            grind (arith, p.2, m.4),
-          );
+          let p = pruned.met m.1.0 m.0 (omega (arith, m.1.1, all)) (place_of terms m.0 m.1) m.2 in
+          let led = led_less ask p.0 q d asked in
+          let tied = tied_at_most p.0 q d in
+          (p.0, p.1, grind (arith, p.2, m.3, m.5, led, tied, worth_at_most, IsAtMost-refl), grind (arith, p.2, m.4));
     }
 
 module _ (s : SheetParts) (m : Menu) (l : PriceList Quote) (d : ℕ) (valid : IsSheet s) (menu : IsMenu s.instruction m)

@@ -1,5 +1,5 @@
 -- Who takes the wood of a stem.
-use Rattle.buck_dp.proofs.Words.{slice_get, Some, IsPlaced, IsAssortment, ◌≡◌, ℕ, ◌+◌, ◌-◌, ◌*◌, ◌/◌, ◌<◌, ◌≤◌, ◌⊎◌, inl, inr, List, [], ◌∷◌, ◌++◌, zero, suc, get_or, Contains, length, refl, sym, subst, arith, mul-le-mul_left}
+use Rattle.buck_dp.proofs.Words.{slice_get, Some, IsPlaced, IsAssortment, ◌≡◌, ℕ, ◌+◌, ◌-◌, ◌*◌, ◌/◌, ◌<◌, ◌≤◌, ◌⊎◌, inl, inr, List, [], ◌∷◌, ◌++◌, zero, suc, get_or, length, refl, sym, subst, arith, mul-le-mul_left}
 use Rattle.buck_dp.proofs.Words.{mul-le-mul_right, add-mul, rules, div-mul-le_self, le-div, le_of_mul-le-mul_right, min, div-lt_iff_lt-mul, cases_lt, append_assoc, append-nil, IsStem, grade_at, HasGrade, stem_length, diameter_at, IsMask}
 use Rattle.buck_dp.proofs.Words.{grade_at_is, mask_allows, IsSheet, slice_index, GroundParts, points_of, ends_of, Takers, IsTaker, AreTakersOf, BidParts, none, HasTakers, HasNoneOf, IsRow, IsPartTo, AreParts, HaveParts, IsEven, IsSearch}
 use Rattle.buck_dp.proofs.Words.{AreOffered, IsCell, log_at, AllFit, bid_at, IsNearest, IsSite, Site, Part, Cell, MarketParts, Head, IsMarketOf, IsRowOf, take, drop, IsLogAt}
@@ -48,8 +48,7 @@ module _ (p : GroundParts) (t : ℕ) where
   pub last_part : (stop k : ℕ) (parts : List Part) (part : Part) → part ≡ get_or parts k part → k + 1 ≡ length parts
       → AreParts p t stop parts → HasNoneOf p part.first t
   last_part stop k [] part at is are = absurd (omega arith)
-  last_part stop zero (only ∷ []) part at is are =
-      subst (λ (n : Part). HasNoneOf p n.first t) (sym at) are.1
+  last_part stop zero (only ∷ []) part at is are = rw at are.1
   last_part stop zero (first ∷ next ∷ parts) part at is are = absurd (omega arith)
   last_part stop (suc k) (first ∷ parts) part at is are = last_part first.first k parts part at (omega arith) are.1
 
@@ -87,10 +86,8 @@ module _ {p : GroundParts} {x : Site} (is_site : IsSite p x) where
   -- a top too near to the last of its parts has no logs
   pub short_run : (t k : ℕ) (part : Part) (parts : List Part) → AreParts p t t parts → part ≡ get_or parts k part
       → k + 1 ≡ length parts → t < part.first + p.menu.least_steps → HasNoneOf p t t
-  short_run t k part parts are at is near i e bid lt log = elim (cases_lt i part.first) [
-    | inl before ↦ last_part p t t k parts part at is are i e bid before log
-    | inr from ↦ none_near (omega arith) log
-  ]
+  short_run t k part parts are at is near i e bid lt log =
+      grind (arith, (last_part p t t k parts part at is are i e bid), (λ (low : t < i + p.menu.least_steps). none_near low log))
 
   -- all logs with a top start in the nearest part, if that is the only one, or the others are too far
   pub near_run : (t : ℕ) (near : Part) (parts : List Part) → AreParts p t t parts → near ≡ get_or parts 0 near
@@ -168,7 +165,7 @@ module _ {p : GroundParts} {x : Site} (is_site : IsSite p x) where
             λ z from to. elim (cases_lt z (first * unit)) [
               | inr after ↦
                   let m = rw e at (moved (t - 1) z (omega arith) (omega arith) after to) in
-                  subst (λ g. Contains y.grades g) m.3 (takes.1 m.0 (omega (arith, m.1)) m.2)
+                  rw (← m.3) (takes.1 m.0 (omega (arith, m.1)) m.2)
               | inl early ↦ takes.1 z (grind (arith, mul-le-mul_right, cases_lt first i)) (omega arith)
             ],
           ),

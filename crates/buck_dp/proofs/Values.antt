@@ -89,7 +89,7 @@ module _ {p : GroundParts} {v : List BidParts} {ch : List ℕ}
         cut = cut_earlier p (i * unit) ((i + 1) * unit) gs (omega (arith, add-mul i 1 unit)) b.cut;
         is = b.is ∙ sym even;
         first = elim [
-          | [] ↦ λ c e. b.first [] tt (e ∙ even)
+          | [] ↦ λ c e. search (rules, b.first, even)
           | h ∷ hs ↦ λ c e. grind (arith, (tie i h hs c e), (b.first (h ∷ hs)), even)
         ];
       }
@@ -142,13 +142,9 @@ module _ {p : GroundParts} {v : List BidParts} {ch : List ℕ}
       λ hs c. rw b.is (bounded 0 hs (rw zero-mul c)) in (
         record {
           best = record { admissible = cut; none_outvalues = most };
-          first = λ hs best other. grind (
-            arith,
-            (b.first hs (rw zero-mul best.admissible)),
-            (most hs best.admissible),
-            (best.none_outvalues logs cut),
-            b.is,
-          );
+          first = λ hs best other.
+              let before = b.first hs (rw zero-mul best.admissible) in
+              grind (arith, before, (most hs best.admissible), (best.none_outvalues logs cut), b.is);
         },
         sym b.is,
       )

@@ -1,4 +1,5 @@
 -- What the crate's own functions show one another.
+pub mod Words
 pub mod Offers
 pub mod Bid
 pub mod Logs

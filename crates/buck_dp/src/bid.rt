@@ -44,9 +44,8 @@ impl Bid {
         requires rank { rank ≤ HIGHEST_RANK }
         ensures { result ≡ bid_of worth rank }
     {
-        Bid {
-            key: worth * RANKS + u64::from(rank),
-        }
+        let key = worth * RANKS + u64::from(rank);
+        Bid { key }
     }
 
     /// The worth in millionths of the price unit.
@@ -68,9 +67,8 @@ impl Bid {
     pub fn without_rank(self) -> Bid
         ensures { result ≡ bid_of self.worth 0 }
     {
-        Bid {
-            key: self.key - self.key % RANKS,
-        }
+        let key = self.key - self.key % RANKS;
+        Bid { key }
     }
 
     /// The bid with what follows the log, which has no rank.
@@ -79,17 +77,15 @@ impl Bid {
         requires low { self.worth + rest.worth ≤ most_worth }
         ensures { result ≡ bid_of (self.worth + rest.worth) self.rank }
     {
-        Bid {
-            key: self.key + rest.key,
-        }
+        let key = self.key + rest.key;
+        Bid { key }
     }
 
     /// The greater of two: the one of more worth, or of as much and the higher rank.
     pub fn max(self, other: Bid) -> Bid
         ensures { IsGreater self other result }
     {
-        Bid {
-            key: self.key.max(other.key),
-        }
+        let key = self.key.max(other.key);
+        Bid { key }
     }
 }

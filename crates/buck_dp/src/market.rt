@@ -212,10 +212,8 @@ impl Market {
         }
         let at = self.terms_at(alloc, diameter)?;
         let terms = &self.terms[at];
-        let ask = Ask {
-            takers,
-            band: terms.ask.band,
-        };
+        let band = terms.ask.band;
+        let ask = Ask { takers, band };
         let mut list = Vec::with_capacity(alloc, terms.list.len())?;
         put_list(&mut list, &self.sheet, terms.list.as_slice(), ask)?;
         let place = self.quotes.len();
@@ -281,11 +279,10 @@ impl Market {
         ensures row { IfOk result (IsRowOf self.new group.takers diameter) }
     {
         let slot = usize::from(group.number) * DIAMETERS + diameter as usize;
-        let head = match self.find(group.takers, diameter, slot) {
-            Some(head) => head,
-            None => self.draw(alloc, group, diameter, slot)?,
-        };
-        Ok(head)
+        match self.find(group.takers, diameter, slot) {
+            Some(head) => Ok(head),
+            None => self.draw(alloc, group, diameter, slot),
+        }
     }
 
     /// The cells of a row.

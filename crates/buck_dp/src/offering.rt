@@ -1,5 +1,5 @@
 //! What is done at one top: its value is settled, and its logs are offered to the points where they start.
-ghost use Rattle.std.specs.Prelude.{◌≡◌, ℕ, ◌+◌, ◌<◌, ◌≤◌, ◌++◌, All, List, length, slice_get, Some, OnOk, OnErr};
+ghost use Rattle.std.specs.Prelude.{◌≡◌, ℕ, ◌+◌, ◌-◌, ◌<◌, ◌≤◌, ◌++◌, All, List, length, slice_get, Some, OnOk, OnErr};
 ghost use Rattle.buck_dp.specs.declared.offering.Cell.{Cell};
 ghost use Rattle.buck_dp.specs.inner.Bid.{BidParts};
 ghost use Rattle.buck_dp.specs.inner.Logs.{GroundParts};
@@ -68,14 +68,16 @@ pub fn put_row(
     Ok(())
 }
 
-/// Settles a point: its value is what was offered to it, or that of the next point if this is greater. The rank becomes
-/// the choice.
-pub(crate) fn settle(values: &mut [Bid], choices: &mut [u32], point: usize)
-    requires { (p : GroundParts) × IsSearch p values.old choices.old (point + 1) 0 }
-    ensures { (p : GroundParts) → IsSearch p values.old choices.old (point + 1) 0
-        → IsSearch p values.new choices.new point point }
+/// Settles the last point before `past`: its value is what was offered to it, or that of the next point if this is
+/// greater. The rank becomes the choice.
+pub(crate) fn settle(values: &mut [Bid], choices: &mut [u32], past: usize)
+    ghost p: { GroundParts }
+    requires some { 0 < past }
+    requires search { IsSearch p values.old choices.old past 0 }
+    ensures { IsSearch p values.new choices.new (past - 1) (past - 1) }
 {
-    let value = values[point].max(values[point + 1]);
+    let point = past - 1;
+    let value = values[point].max(values[past]);
     choices[point] = value.rank();
     values[point] = value.without_rank();
 }

@@ -144,8 +144,8 @@ impl Search {
             let row = market.row(alloc, near.group, diameter)?;
             let cells = market.cells(row);
             while top > last && diameters[top - 1] == diameter {
-                top -= 1;
                 settle(values, choices, top);
+                top -= 1;
                 offer_all(values, top, near.first, cells, far);
             }
         }
@@ -153,7 +153,7 @@ impl Search {
     }
 
     /// Settles the tops before `past` down to `last`, and offers the logs with these part by part.
-    #[tactic(auto, using(crate::proofs::SiteLemmas::point_reached))]
+    #[tactic(auto, using(crate::proofs::SiteLemmas::at_top, crate::proofs::SiteLemmas::point_reached))]
     fn settle_parts(
         &mut self,
         alloc: Global,
@@ -178,8 +178,8 @@ impl Search {
         let choices = self.choices.as_mut_slice();
         let mut top = past;
         while top > last {
-            top -= 1;
             settle(values, choices, top);
+            top -= 1;
             let room = site.stem.length() - top as u32 * module;
             let mut stop = top;
             for part in parts {

@@ -59,10 +59,8 @@ impl Quote {
         ensures { result ≡ quote_bid self diameter }
     {
         let volume = volume_of(diameter, self.term.length);
-        Bid::of(
-            worth_of_piece(self.term.kind, self.price, volume),
-            self.term.rank,
-        )
+        let worth = worth_of_piece(self.term.kind, self.price, volume);
+        Bid::of(worth, self.term.rank)
     }
 }
 

@@ -1,17 +1,8 @@
 -- The logs of a stem at its points, what they bid, and who takes their wood.
 use Rattle.std.specs.Prelude.{◌≡◌, ℕ, ◌+◌, ◌*◌, ◌<◌, ◌≤◌, List, get_or, slice_get, Some, ◌-◌, ◌/◌, ◌↔◌}
-use Rattle.buck_value.specs.declared.log.Log.{Log}
-use Rattle.buck_value.specs.Allowed.{IsAllowed, worth_of, log_of, top_of, end_of}
+use Rattle.buck_dp.specs.inner.Words.{Log, IsAllowed, worth_of, log_of, top_of, end_of, AssortmentParts, InstructionParts, HasGradesOf, StemParts, stem_length, Takers, SheetParts, Menu, bit_at, TakesWood, Known}
 use Rattle.buck_dp.specs.inner.Offers.{IsRank, offer_at}
 use Rattle.buck_dp.specs.inner.Bid.{BidParts, none}
-use Rattle.buck_apt.specs.Instruction.{AssortmentParts, InstructionParts}
-use Rattle.buck_stem.specs.Stem.{HasGradesOf, StemParts, stem_length}
-use Rattle.buck_dp.specs.declared.takers.Takers.{Takers}
-use Rattle.buck_value.specs.Sheet.{SheetParts}
-use Rattle.buck_dp.specs.declared.offers.Menu.{Menu}
-use Rattle.std.specs.Int.{bit_at}
-use Rattle.buck_value.specs.Wood.{TakesWood}
-use Rattle.buck_dp.specs.declared.takers.Known.{Known}
 
 -- the assortment at a place is among them
 abbrev pub IsTaker : Takers → ℕ → Type 0

@@ -1,17 +1,9 @@
 -- A sheet, what its instruction offers, and what was found of that so far.
 use Rattle.std.specs.Prelude.{◌≡◌, ℕ, ◌+◌, ◌<◌, ◌≤◌, List, length, slice_get, take, drop, Some}
-use Rattle.buck_value.specs.Sheet.{SheetParts, IsSheet}
-use Rattle.buck_dp.specs.declared.market.Head.{Head}
-use Rattle.buck_dp.specs.declared.market.PriceList.{PriceList}
-use Rattle.buck_dp.specs.declared.offers.Menu.{Menu}
-use Rattle.buck_dp.specs.declared.pricing.Term.{Term}
-use Rattle.buck_dp.specs.declared.pricing.Quote.{Quote}
-use Rattle.buck_dp.specs.declared.takers.Takers.{Takers}
-use Rattle.buck_dp.specs.declared.offering.Cell.{Cell}
+use Rattle.buck_dp.specs.inner.Words.{SheetParts, IsSheet, Head, PriceList, Menu, Term, Quote, Takers, Cell, Known}
 use Rattle.buck_dp.specs.inner.Quotes.{IsRow, IsAsked, AreTerms, AreQuotes}
 use Rattle.buck_dp.specs.inner.Offers.{IsMenu}
 use Rattle.buck_dp.specs.inner.Logs.{AreKnown}
-use Rattle.buck_dp.specs.declared.takers.Known.{Known}
 
 pub record MarketParts : Type 0 where
   pub sheet : SheetParts

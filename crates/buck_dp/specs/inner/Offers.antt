@@ -1,9 +1,6 @@
 -- The logs that an instruction offers, in the order that settles ties, and their ranks.
 use Rattle.std.specs.Prelude.{◌≡◌, ℕ, ◌-◌, ◌<◌, ◌≤◌, ◌⊎◌, ◌↔◌, Contains, List, length, get_or, slice_get, Some, ◌*◌}
-use Rattle.buck_apt.specs.Instruction.{AssortmentParts, InstructionParts}
-use Rattle.buck_dp.specs.declared.bid.TheConstants.{HIGHEST_RANK}
-use Rattle.buck_dp.specs.declared.offers.Offer.{Offer}
-use Rattle.buck_dp.specs.declared.offers.Menu.{Menu}
+use Rattle.buck_dp.specs.inner.Words.{AssortmentParts, InstructionParts, HIGHEST_RANK, Offer, Menu}
 
 abbrev pub offer_of : ℕ → ℕ → Offer
 offer_of length assortment = record { length = length; assortment = assortment }

@@ -1,22 +1,10 @@
 -- What takers bid at a diameter, whatever the stem, and price lists and rows of that.
 use Rattle.std.specs.Prelude.{◌≡◌, ◌≢◌, ℕ, ◌+◌, ◌-◌, ◌*◌, ◌<◌, ◌≤◌, ◌⊎◌, List, All, Contains, map, slice_get, slice_index, Some}
-use Rattle.buck_apt.specs.Instruction.{InstructionParts, classes, index_of, AssortmentParts}
-use Rattle.buck_apt.specs.declared.class.Class.{Class}
-use Rattle.buck_value.specs.Sheet.{SheetParts, IsSheet, price_of, sheet_of}
-use Rattle.buck_value.specs.Volume.{volume, worth_at}
+use Rattle.buck_dp.specs.inner.Words.{InstructionParts, classes, index_of, AssortmentParts, Class, SheetParts, IsSheet, price_of, sheet_of, volume, worth_at, Term, Quote, Ask, Band, HIGHEST_RANK, HIGHEST_PRICE, IsBought, row_at, column_of}
+use Rattle.buck_dp.specs.inner.Words.{Offer, Takers, Cell}
 use Rattle.buck_dp.specs.inner.Logs.{point_after, IsTaker}
-use Rattle.buck_dp.specs.declared.pricing.Term.{Term}
-use Rattle.buck_dp.specs.declared.pricing.Quote.{Quote}
-use Rattle.buck_dp.specs.declared.pricing.Ask.{Ask}
-use Rattle.buck_dp.specs.declared.pricing.Band.{Band}
 use Rattle.buck_dp.specs.inner.Bid.{BidParts, bid_of}
-use Rattle.buck_dp.specs.declared.bid.TheConstants.{HIGHEST_RANK}
-use Rattle.buck_value.specs.declared.sheet.TheConstants.{HIGHEST_PRICE}
-use Rattle.buck_value.specs.Allowed.{IsBought, row_at, column_of}
-use Rattle.buck_dp.specs.declared.offers.Offer.{Offer}
 use Rattle.buck_dp.specs.inner.Offers.{IsRank, offer_at}
-use Rattle.buck_dp.specs.declared.takers.Takers.{Takers}
-use Rattle.buck_dp.specs.declared.offering.Cell.{Cell}
 use Rattle.buck_dp.specs.inner.Searched.{IsPlaced, Meets}
 
 -- the class of an assortment's logs of an offer with a top diameter

@@ -2,9 +2,7 @@
 use Rattle.std.specs.Prelude.{◌≡◌, ℕ, ◌+◌, ◌<◌, ◌≤◌, ◌≢◌, ◌⊎◌, List, length, get_or, slice_get, Some, ◌*◌, ◌-◌}
 use Rattle.buck_dp.specs.inner.Logs.{GroundParts, ends_of, IsLogAt, IsLow, bid_at}
 use Rattle.buck_dp.specs.inner.Bid.{BidParts, bid_of, none, IsAtMost, IsGreater, plus}
-use Rattle.buck_stem.specs.Stem.{IsStem, stem_length}
-use Rattle.buck_value.specs.Sheet.{IsSheet}
-use Rattle.buck_dp.specs.declared.offering.Cell.{Cell}
+use Rattle.buck_dp.specs.inner.Words.{IsStem, stem_length, IsSheet, Cell}
 
 -- a cell tells where its log and the next one start, from so far before its top on
 abbrev pub IsPlaced : ℕ → Cell → Type 0
@@ -30,23 +28,15 @@ IsNear p top first stop c = (c.steps + first ≤ top) × (top < c.steps + stop) 
 abbrev pub Meets : Cell → ℕ → BidParts → Type 0
 Meets c steps bid = ((c.steps ≡ steps) × IsAtMost bid c.bid) ⊎ ((c.steps < steps) × (bid.worth < c.bid.worth))
 
--- the log of a cell fits, and it bids no less than one from point i with the same top, or it starts later and bids more
--- worth; and it leaves no less
-pub record IsServed (p : GroundParts) (cells : List Cell) (top i e : ℕ) (bid : BidParts) : Type 0 where
-  pub place : ℕ
-  pub cell : Cell
-  pub there : slice_get cells place ≡ Some cell
-  pub fits : IsFitting p top cell
-  pub serves : Meets cell (top - i) bid
-  pub leaves : top + cell.rise ≤ e
-
--- the cells that fit are bids of logs with this top from each start behind one from point `first` on and before `stop`,
--- and each log from these is served
+-- the cells that fit are bids of logs with this top from each start behind one from point `first` on and before `stop`;
+-- and for each log from these one of the cells bids no less, or it starts later and bids more worth, and leaves no less
 pub record IsPart (p : GroundParts) (top first stop : ℕ) (cells : List Cell) : Type 0 where
   pub real : (k : ℕ) (c : Cell) → slice_get cells k ≡ Some c → IsFitting p top c
       → (i start : ℕ) → first ≤ i → i < stop → i ≤ start → start + c.steps ≡ top
       → IsLogAt p start top (top + c.rise) c.bid
-  pub served : (i e : ℕ) (bid : BidParts) → first ≤ i → i < stop → IsLogAt p i top e bid → IsServed p cells top i e bid
+  pub served : (i e : ℕ) (bid : BidParts) → first ≤ i → i < stop → IsLogAt p i top e bid
+      → (k : ℕ) × (c : Cell) × (slice_get cells k ≡ Some c) × IsFitting p top c × Meets c (top - i) bid
+      × (top + c.rise ≤ e)
 
 -- a settled point: its value has the worth of the best from there on, and its choice is the rank of the first log of
 -- that, or 0 if none starts there

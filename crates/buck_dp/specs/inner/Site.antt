@@ -1,8 +1,6 @@
 -- A stem at its points, and its search.
 use Rattle.std.specs.Prelude.{◌≡◌, ℕ, ◌+◌, ◌*◌, ◌<◌, ◌≤◌, List, [], ◌∷◌}
-use Rattle.buck_stem.specs.Stem.{IsStem, stem_length}
-use Rattle.buck_stem.specs.points.Profile.{profile_of, ProfileParts, IsMaskBetween}
-use Rattle.buck_value.specs.Sheet.{IsSheet}
+use Rattle.buck_dp.specs.inner.Words.{IsStem, stem_length, profile_of, ProfileParts, IsMaskBetween, IsSheet}
 use Rattle.buck_dp.specs.inner.Logs.{GroundParts, HasTakers, HasNoneOf}
 use Rattle.buck_dp.specs.inner.Searched.{IsSearch}
 use Rattle.buck_dp.specs.inner.Offers.{IsMenu}

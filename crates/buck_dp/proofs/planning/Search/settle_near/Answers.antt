@@ -1,11 +1,10 @@
 use Rattle.buck_dp.proofs.Words.{◌≡◌, ℕ, ◌-◌, ◌∙◌, slice_get, Some, Cell, arith, rules, with_items_is, IsSearch, IsPlaced, AreOffered, AllFit}
 use Rattle.buck_dp.proofs.OfferLemmas.{closed}
 use Rattle.buck_dp.proofs.SiteLemmas.{at_top, near_open, row_under}
-use Rattle.buck_dp.proofs.planning.Search.settle_near.Goals.{After-settle}
 use Rattle.buck_dp.proofs.planning.Search.settle_near.Goals as goal
 
 -- the cells of the row at the diameter of the top can be offered
-opened : (g : _) (c : After-settle g)
+opened : (g : _) (c : goal.After-settle g)
     → AreOffered g.p c.settle.new.choices (c.loop-top-2.top - 1) c.args.near.first (c.loop-top-2.top - 1)
     c.cells-cells.result.now 0 c.settle.new.values
     × AllFit g.p (c.loop-top-2.top - 1) c.cells-cells.result.now
@@ -15,13 +14,9 @@ opened g c =
     let same = c.in_ok-row.ensures.same in
     let was = c.loop-top.invariant.market in
     near_open c.requires.0.site _ c.diameters-diameters.ensures.right (omega (arith, l.invariant.search.within)) _
-    (c.settle.ensures g.p (at_top (omega (arith, c.loop-top-2-test.true)) l.invariant.search))
-    (c.requires.1.1 (l.top - 1) (omega arith) (omega (arith, l.invariant.high, c.loop-top.invariant.high)))
+    c.settle.ensures (c.requires.1.1 (l.top - 1) (omega arith) (omega (arith, l.invariant.high, c.loop-top.invariant.high)))
     (rw (c.cells-cells.ensures, c.if-diameters-top.true) (row_under g.p c.row.new.self _
     (same.0 ∙ was.0, same.1 ∙ was.1) c.in_ok-row.ensures.row))
-
-pub settle-requires : goal.settle-requires
-settle-requires g c = (g.p, search (rules, at_top))
 
 pub offer_all-requires : goal.offer_all-requires
 offer_all-requires g c =

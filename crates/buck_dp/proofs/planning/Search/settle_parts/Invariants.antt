@@ -1,6 +1,9 @@
 use Rattle.buck_dp.proofs.Words.{◌≤◌, drop, IsSearch, IsMarketOf, AreParts}
 use Rattle.buck_dp.proofs.planning.Search.settle_parts.Given as goal
 
+abbrev pub ghost-settle : goal.ghost-settle
+ghost-settle g a = g.p
+
 abbrev pub invariant-loop-top : goal.invariant-loop-top
 invariant-loop-top g l = record {
   low : l.last ≤ l.top;

@@ -1,0 +1,24 @@
+-- The words that the definitions of this crate's own functions name, from where each is declared.
+pub use Rattle.buck_apt.specs.Instruction.{AssortmentParts, InstructionParts, classes, index_of}
+pub use Rattle.buck_apt.specs.declared.class.Class.{Class}
+pub use Rattle.buck_dp.specs.declared.bid.TheConstants.{HIGHEST_RANK}
+pub use Rattle.buck_dp.specs.declared.market.Head.{Head}
+pub use Rattle.buck_dp.specs.declared.market.PriceList.{PriceList}
+pub use Rattle.buck_dp.specs.declared.offering.Cell.{Cell}
+pub use Rattle.buck_dp.specs.declared.offers.Menu.{Menu}
+pub use Rattle.buck_dp.specs.declared.offers.Offer.{Offer}
+pub use Rattle.buck_dp.specs.declared.pricing.Ask.{Ask}
+pub use Rattle.buck_dp.specs.declared.pricing.Band.{Band}
+pub use Rattle.buck_dp.specs.declared.pricing.Quote.{Quote}
+pub use Rattle.buck_dp.specs.declared.pricing.Term.{Term}
+pub use Rattle.buck_dp.specs.declared.takers.Known.{Known}
+pub use Rattle.buck_dp.specs.declared.takers.Takers.{Takers}
+pub use Rattle.buck_stem.specs.Stem.{HasGradesOf, IsStem, StemParts, stem_length}
+pub use Rattle.buck_stem.specs.points.Profile.{IsMaskBetween, ProfileParts, profile_of}
+pub use Rattle.buck_value.specs.Allowed.{IsAllowed, IsBought, column_of, end_of, log_of, row_at, top_of, worth_of}
+pub use Rattle.buck_value.specs.Sheet.{IsSheet, SheetParts, price_of, sheet_of}
+pub use Rattle.buck_value.specs.Volume.{volume, worth_at}
+pub use Rattle.buck_value.specs.Wood.{TakesWood}
+pub use Rattle.buck_value.specs.declared.log.Log.{Log}
+pub use Rattle.buck_value.specs.declared.sheet.TheConstants.{HIGHEST_PRICE}
+pub use Rattle.std.specs.Int.{bit_at}
