@@ -1,11 +1,159 @@
--- Four groups of four bytes as one load.
-use Rattle.std.proofs.Common.{◌≡◌, ℕ, Option, Some, None, IfSome, ◌+◌, ◌*◌, ◌<◌, ◌≤◌, List, [], ◌∷◌, length, get_or, drop, refl, ap, ◌∙◌, subst, arith, w8, w32, Fits, get_or-drop, drop-drop, length-drop}
-use Rattle.std.specs.Int.{from_le_bytes}
-use Rattle.std.proofs.lemmas.Simd.{get_or_wider, get_or-chunk, length-chunk, chunk-fits, below_from_Fits}
-use lib.Lanes.{Each1, chunk, digits_l, number_l}
-use Rattle.buck_record.specs.inner.Front.{IsThree, IsFront, HasFronts}
-use Rattle.buck_record.proofs.GroupLemmas.{four_bytes, front-three}
+-- Words of three digits, four at a time: groups of four bytes as lanes, and as the front of a text.
+use Rattle.std.proofs.Common.{◌≡◌, ℕ, ◌+◌, ◌*◌, ◌/◌, ◌%◌, ◌<◌, ◌≤◌, ltb, cond, true, false, Option, Some, None, IfSome, List, [], ◌∷◌, map, length, get_or, take, drop, replicate}
+use Rattle.std.proofs.Common.{bit_and, refl, sym, ap, ◌∙◌, subst, arith, inl, inr, w8, w32, Fits, get_or-drop, drop-drop, length-drop, length-take-le}
+use Rattle.std.specs.List.{position_or_len}
+use Rattle.std.specs.Char.{is_ascii_digit, digit_value}
+use Rattle.std.specs.Str.Parse.{digits_value}
+use Rattle.std.proofs.lemmas.Bool.{cases_Bool, ltb-true, cases_lt, lt-ltb}
+use Rattle.std.proofs.lemmas.Bool.Decides.{nat_tests}
+use Rattle.std.proofs.lemmas.Grind.{and_numeral}
+use Rattle.std.proofs.lemmas.Int.Digits.{digits_value_more}
+use Rattle.std.proofs.lemmas.Simd.{get_or-zip2, get_or-replicate, length-zip2, tops_compared, length-sel_l, get_or-sel_l, get_or_wider, get_or-chunk, length-chunk, chunk-fits, below_from_Fits}
+use borrow.Author.Count.{below_none, below_more}
+use lib.Lanes.{zip2, sel_l, top, Each1, chunk, digits_l, number_l}
+use Rattle.buck_record.specs.bytes.White.{is_white}
+unfoldable use Rattle.buck_record.specs.bytes.White.{first_word, after_word}
+use Rattle.buck_record.specs.bytes.Record.{number_at_most}
+use Rattle.buck_record.specs.inner.Front.{HasFour, IsThree, IsFront, HasFronts}
+use Rattle.buck_record.proofs.NumberLemmas.{cut-whole, after_is, digit_dark}
+use Rattle.buck_record.proofs.WordLemmas.{words-more, filled_word, bounded}
 
+-- ---- lane by lane
+pub lanes_of : (f : ℕ → ℕ → ℕ) (xs ys : List ℕ)
+    → length xs ≡ 4 → length ys ≡ 4 → HasFour (zip2 f xs ys) (λ i. f (get_or xs i 0) (get_or ys i 0))
+lanes_of f xs ys p q = record {
+  len = length-zip2 f xs ys (p ∙ sym q) ∙ p;
+  lanes = λ i h. get_or-zip2 f xs ys i 0 0 0 (omega (arith, p)) (omega (arith, q));
+}
+
+pub lanes_with : (f : ℕ → ℕ → ℕ) (xs : List ℕ) (y : ℕ)
+    → length xs ≡ 4 → HasFour (zip2 f xs (replicate 4 y)) (λ i. f (get_or xs i 0) y)
+lanes_with f xs y p = record {
+  len = (lanes_of f xs (replicate 4 y) p refl).len;
+  lanes = λ i h. (lanes_of f xs (replicate 4 y) p refl).lanes i h ∙ ap (f (get_or xs i 0)) (get_or-replicate 4 i y 0 h);
+}
+
+pub low_of : (xs : List ℕ) → length xs ≡ 4 → HasFour (zip2 bit_and xs (replicate 4 255)) (λ i. get_or xs i 0 % 256)
+low_of xs p = record {
+  len = (lanes_with bit_and xs 255 p).len;
+  lanes = λ i h. (lanes_with bit_and xs 255 p).lanes i h ∙ and_numeral (get_or xs i 0) 254 refl;
+}
+
+both_below : (a b : ℕ) → (a ≤ cond (ltb a b) b a) × (b ≤ cond (ltb a b) b a)
+both_below a b =
+    elim (cases_lt a b) [
+      | inl lt ↦ rw (lt-ltb a b lt) (omega arith, omega arith)
+      | inr le ↦ elim (cases_Bool (ltb a b)) [
+        | inl below ↦ rw below (omega (arith, ltb-true a b below), omega arith)
+        | inr above ↦ rw above (omega arith, omega arith)
+      ]
+    ]
+
+module _ (a b : List ℕ) (p : length a ≡ 4) (q : length b ≡ 4) where
+  greatest : List ℕ
+  greatest = sel_l (map (top 31) (zip2 (λ x y. cond (ltb x y) 4294967295 0) a b)) b a
+
+  tests : map (top 31) (zip2 (λ x y. cond (ltb x y) 4294967295 0) a b) ≡ zip2 ltb a b
+  tests = tops_compared w32 ltb a b
+
+  count : length (zip2 ltb a b) ≡ 4
+  count = length-zip2 ltb a b (p ∙ sym q) ∙ p
+
+  pub greatest_len : length (sel_l (map (top 31) (zip2 (λ x y. cond (ltb x y) 4294967295 0) a b)) b a) ≡ 4
+  greatest_len = rw tests (length-sel_l (zip2 ltb a b) b a (count ∙ sym q) (count ∙ sym p) ∙ count)
+
+  pub greatest_lane : (i : ℕ) → i < 4
+      → (get_or a i 0 ≤ get_or (sel_l (map (top 31) (zip2 (λ x y. cond (ltb x y) 4294967295 0) a b)) b a) i 0)
+      × (get_or b i 0 ≤ get_or (sel_l (map (top 31) (zip2 (λ x y. cond (ltb x y) 4294967295 0) a b)) b a) i 0)
+  greatest_lane i h =
+      let lane :
+      get_or (sel_l (zip2 ltb a b) b a) i 0
+      ≡ cond (get_or (zip2 ltb a b) i false) (get_or b i 0) (get_or a i 0) =
+      get_or-sel_l (zip2 ltb a b) b a i 0 (omega (arith, count)) (omega (arith, q)) (omega (arith, p)) in
+      let test : get_or (zip2 ltb a b) i false ≡ ltb (get_or a i 0) (get_or b i 0) =
+      get_or-zip2 ltb a b i 0 0 false (omega (arith, p)) (omega (arith, q)) in
+      rw (tests, lane, test) (both_below (get_or a i 0) (get_or b i 0))
+
+-- Four bytes less "000 " are three digits, the lowest first, and nothing above them.
+three : (g z : ℕ)
+    → g < 4294967296 → z ≡ (g + 3754938320) % 4294967296 → z % 256 ≤ 9 → z / 256 % 256 ≤ 9 → z / 65536 ≤ 9
+    → IsThree g (z % 256 * 100 + z / 256 % 256 * 10 + z / 65536)
+three g z fits is a b c =
+    record {
+      a = z % 256;
+      b = z / 256 % 256;
+      c = z / 65536;
+      digits = (a, b, c);
+      bytes = omega (arith, fits, is, a, b, c);
+      value = omega arith;
+    }
+
+-- one lane of the four
+pub lane_three : (g z v a b c m most rest p q r : ℕ)
+    → g < 4294967296 → z ≡ (g + 3754938320) % 4294967296 → a ≡ z % 256 → rest ≡ z / 256 → b ≡ rest % 256
+    → c ≡ rest / 256
+    → a ≤ m → b ≤ m → m ≤ most → c ≤ most → most ≤ 9
+    → p ≡ a * 100 % 4294967296
+    → q ≡ b * 10 % 4294967296 → r ≡ (p + q) % 4294967296 → v ≡ (r + c) % 4294967296 → IsThree g v
+lane_three g z v a b c m most rest p q r fits zs ea er eb ec am bm mm cm small ep eq er2 ev =
+    subst (IsThree g)
+    (omega (arith, zs, ea, er, eb, ec, am, bm, mm, cm, small, ep, eq, er2, ev))
+    (three g z fits zs (omega (arith, ea, am, mm, small)) (omega (arith, er, eb, bm, mm, small))
+    (omega (arith, er, ec, cm, small)))
+
+-- ---- a text that begins with a number
+-- a text with a first word that is a number
+pub front-word : (text left : List ℕ) (v : ℕ) → 0 < length (first_word text)
+    → Some v ≡ number_at_most 4294967295 (first_word text) → left ≡ after_word text → IsFront text v left
+unfolding first_word after_word
+front-word text left v filled value after =
+    let p = position_or_len is_white text in
+    let word = length-take-le p text (bounded is_white text) in
+    let rest = length-drop (p + 1) text in
+    record {
+      value = sym value;
+      words = words-more text left filled after;
+      shorter = rw after (omega (arith, filled, bounded is_white text, word, rest));
+      room = rw after (λ more. omega (arith, more, filled, bounded is_white text, word, rest));
+    }
+
+-- a digit's byte
+digit : (x a : ℕ) → a ≤ 9 → x ≡ 48 + a → (is_ascii_digit x ≡ true) × (digit_value x ≡ a)
+digit x a small is = rw is (grind (arith, nat_tests), grind (arith, nat_tests))
+
+-- a text that begins with three digits and a space
+front-three : (text : List ℕ) (v w : ℕ) → 4 ≤ length text → ((k : ℕ) → get_or text k 0 < 256)
+    → w ≡ get_or text 0 0 + 256 * get_or text 1 0 + 65536 * get_or text 2 0 + 16777216 * get_or text 3 0
+    → IsThree w v → IsFront text v (drop 4 text)
+front-three text v w long byte is t =
+    let small : (get_or text 0 0 < 256) × (get_or text 1 0 < 256) × (get_or text 2 0 < 256) × (get_or text 3 0 < 256) =
+    (byte 0, byte 1, byte 2, byte 3) in
+    let d0 = digit (get_or text 0 0) t.a t.digits.0 (omega (arith, is, t.bytes, small, t.digits)) in
+    let d1 = digit (get_or text 1 0) t.b t.digits.1 (omega (arith, is, t.bytes, small, t.digits)) in
+    let d2 = digit (get_or text 2 0) t.c t.digits.2 (omega (arith, is, t.bytes, small, t.digits)) in
+    let blank : get_or text 3 0 ≡ 32 = omega (arith, is, t.bytes, small, t.digits) in
+    let white : is_white (get_or text 3 0) ≡ true = rw blank refl in
+    let P : ℕ → Type 0 = λ k. is_ascii_digit (get_or text k 0) ≡ true in
+    let digits : (k : ℕ) → k < 3 → is_ascii_digit (get_or text k 0) ≡ true =
+    below_more P 2 (below_more P 1 (below_more P 0 (below_none P) d0.0) d1.0) d2.0 in
+    let value : v ≡ digits_value 10 (take 3 text) =
+    omega (
+      arith,
+      t.value,
+      d0.1,
+      d1.1,
+      d2.1,
+      digits_value_more 10 text 0 (omega arith),
+      digits_value_more 10 text 1 (omega arith),
+      digits_value_more 10 text 2 (omega arith),
+    ) in
+    let filled = filled_word text (omega arith) (digit_dark (get_or text 0 0) d0.0) in
+    front-word text (drop 4 text) v filled
+    (sym (cut-whole text 3 digits (omega arith) (λ _. white) 4294967295 v filled value
+    (omega (arith, t.value, t.digits))))
+    (sym (after_is text 3 digits (omega arith) (λ _. white)))
+
+-- ---- four groups of four bytes as one load
 number_four : (xs : List ℕ)
     → length xs ≡ 4
     → number_l 256 xs ≡ get_or xs 0 0 + 256 * get_or xs 1 0 + 65536 * get_or xs 2 0 + 16777216 * get_or xs 3 0
@@ -16,33 +164,6 @@ number_four (a ∷ b ∷ c ∷ []) h = absurd (omega (arith, h))
 number_four (a ∷ b ∷ c ∷ d ∷ []) h = omega arith
 number_four (a ∷ b ∷ c ∷ d ∷ e ∷ xs) h = absurd (omega (arith, h))
 
--- a group somewhere in a text
-front_at : (text : List ℕ) (n w v : ℕ) → n + 4 ≤ length text → ((k : ℕ) → get_or text k 0 < 256)
-    → w ≡ get_or text n 0 + 256 * get_or text (n + 1) 0
-    + 65536 * get_or text (n + 2) 0 + 16777216 * get_or text (n + 3) 0
-    → IsThree w v → IsFront (drop n text) v (drop (n + 4) text)
-front_at text n w v within byte is t =
-    let rest = drop n text in
-    let g0 : get_or rest 0 0 ≡ get_or text n 0 = get_or-drop n text 0 0 ∙ ap (λ k. get_or text k 0) (omega arith) in
-    let g1 : get_or rest 1 0 ≡ get_or text (n + 1) 0 = get_or-drop n text 1 0 in
-    let g2 : get_or rest 2 0 ≡ get_or text (n + 2) 0 = get_or-drop n text 2 0 in
-    let g3 : get_or rest 3 0 ≡ get_or text (n + 3) 0 = get_or-drop n text 3 0 in
-    let same : w ≡ from_le_bytes w32 (get_or rest 0 0 ∷ get_or rest 1 0 ∷ get_or rest 2 0 ∷ get_or rest 3 0 ∷ []) =
-    omega (
-      arith,
-      is,
-      g0,
-      g1,
-      g2,
-      g3,
-      four_bytes (get_or rest 0 0) (get_or rest 1 0) (get_or rest 2 0) (get_or rest 3 0),
-    ) in
-    let front : IsFront rest v (drop 4 rest) =
-    front-three rest v (omega (arith, length-drop n text)) (λ k. rw (get_or-drop n text k 0) (byte (n + k)))
-    (subst (λ g. IsThree g v) same t) in
-    let left : drop 4 rest ≡ drop (n + 4) text = drop-drop 4 n text ∙ ap (λ k. drop k text) (omega arith) in
-    subst (IsFront rest v) left front
-
 -- the four groups of a text's first bytes
 abbrev lanes_in : List ℕ → List ℕ
 lanes_in text = digits_l 4294967296 4 (number_l 256 (chunk 0 16 text))
@@ -51,37 +172,35 @@ module _ (text : List ℕ) (long : 16 ≤ length text) (fits : (k : ℕ) → Fit
   loaded : Each1 (λ x. x < 256) (chunk 0 16 text)
   loaded = below_from_Fits w8 (chunk 0 16 text) (chunk-fits w8 0 16 text fits)
 
-  word : (j : ℕ) → j < 4 → get_or (digits_l 4294967296 4 (number_l 256 (chunk 0 16 text))) j 0
-      ≡ get_or text (4 * j) 0 + 256 * get_or text (4 * j + 1) 0
-      + 65536 * get_or text (4 * j + 2) 0 + 16777216 * get_or text (4 * j + 3) 0
+  word : (j : ℕ) → j < 4 → get_or (lanes_in text) j 0
+      ≡ get_or (drop (4 * j) text) 0 0 + 256 * get_or (drop (4 * j) text) 1 0
+      + 65536 * get_or (drop (4 * j) text) 2 0 + 16777216 * get_or (drop (4 * j) text) 3 0
   word j h =
       let whole = length-chunk 0 16 text long in
       let part = chunk (4 * j) 4 (chunk 0 16 text) in
-      let at : (i : ℕ) → i < 4 → get_or part i 0 ≡ get_or text (4 * j + i) 0 =
+      let at : (i : ℕ) → i < 4 → get_or part i 0 ≡ get_or (drop (4 * j) text) i 0 =
       λ i l. get_or-chunk (4 * j) 4 (chunk 0 16 text) i 0 l
       ∙ get_or-chunk 0 16 text (4 * j + i) 0 (omega (arith, h, l))
-      ∙ ap (λ k. get_or text k 0) (omega arith) in
-      let first : get_or part 0 0 ≡ get_or text (4 * j) 0 =
-      at 0 (omega arith) ∙ ap (λ k. get_or text k 0) (omega arith) in
+      ∙ ap (λ k. get_or text k 0) (omega arith)
+      ∙ sym (get_or-drop (4 * j) text i 0) in
       get_or_wider 256 4 4294967296 4 (chunk 0 16 text) j refl loaded h
       ∙ number_four part (length-chunk (4 * j) 4 (chunk 0 16 text) (omega (arith, whole, h)))
-      ∙ rw (first, at 1 (omega arith), at 2 (omega arith), at 3 (omega arith)) refl
+      ∙ rw (at 0 (omega arith), at 1 (omega arith), at 2 (omega arith), at 3 (omega arith)) refl
 
-  pub fronts : (vs : List ℕ)
-      → ((i : ℕ) → i < 4 → IsThree (get_or (lanes_in text) i 0) (get_or vs i 0))
-      → HasFronts text vs (drop 16 text)
-  fronts vs t =
-      let byte : (k : ℕ) → get_or text k 0 < 256 = λ k. (fits k).fits in
-      record {
-        long = omega (arith, length-drop 16 text);
-        first = front_at text 0 _ _ (omega arith) byte (word 0 (omega arith)) (t 0 (omega arith));
-        second = front_at text 4 _ _ (omega arith) byte (word 1 (omega arith)) (t 1 (omega arith));
-        third = front_at text 8 _ _ (omega arith) byte (word 2 (omega arith)) (t 2 (omega arith));
-        fourth = front_at text 12 _ _ (omega arith) byte (word 3 (omega arith)) (t 3 (omega arith));
-      }
+  pub fronts : (vs : List ℕ) → ((i : ℕ) → i < 4 → IsThree (get_or (lanes_in text) i 0) (get_or vs i 0))
+      → HasFronts text vs
+  fronts vs t = record {
+    long = long;
+    fronts = λ i h.
+        let back : drop 4 (drop (4 * i) text) ≡ drop (4 * i + 4) text = drop-drop 4 (4 * i) text in
+        subst (IsFront (drop (4 * i) text) (get_or vs i 0)) back
+        (front-three (drop (4 * i) text) (get_or vs i 0) (get_or (lanes_in text) i 0)
+        (omega (arith, length-drop (4 * i) text, h))
+        (λ k. rw (get_or-drop (4 * i) text k 0) ((fits (4 * i + k)).fits)) (word i h) (t i h));
+  }
 
   pub some_fronts : (o : Option (List ℕ))
       → IfSome o (λ vs. (i : ℕ) → i < 4 → IsThree (get_or (lanes_in text) i 0) (get_or vs i 0))
-      → IfSome o (λ vs. HasFronts text vs (drop 16 text))
+      → IfSome o (λ vs. HasFronts text vs)
   some_fronts None h = tt
   some_fronts (Some vs) h = fronts vs h

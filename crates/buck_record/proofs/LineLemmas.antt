@@ -1,5 +1,5 @@
 -- Lines of items as they are written, and the items that are read of them.
-use Rattle.std.proofs.Common.{◌≡◌, ℕ, suc, ◌+◌, ◌-◌, ◌<◌, ◌≤◌, ◌^◌, true, false, List, [], ◌∷◌, ◌++◌, All, Some, get_or, length, take, drop, refl, ap, ◌∙◌, subst, arith, rules, append_assoc}
+use Rattle.std.proofs.Common.{◌≡◌, ℕ, suc, ◌+◌, ◌<◌, ◌≤◌, ◌^◌, true, false, List, [], ◌∷◌, ◌++◌, All, Some, get_or, length, take, drop, refl, ap, ◌∙◌, subst, arith, append_assoc}
 use Rattle.std.specs.List.{AllByRecursion, slice_split, onto_first, position_or_len}
 use Rattle.std.specs.Char.{is_ascii_digit}
 use Rattle.std.specs.Fmt.{decimal}
@@ -7,10 +7,10 @@ use Rattle.std.proofs.lemmas.Grind.{common_steps}
 use Rattle.std.proofs.lemmas.Bool.{cond-true, lt-ltb}
 use Rattle.std.proofs.lemmas.Bool.Decides.{nat_tests}
 use Rattle.std.proofs.lemmas.Fmt.{digits_decimal, decimal_nonempty}
-use Rattle.std.proofs.lemmas.List.{take_all, length-append}
+use Rattle.std.proofs.lemmas.List.{length-append}
 use Rattle.std.proofs.lemmas.List.Elements.{All-append, All-cons, recursion_from_All}
 use Rattle.std.proofs.lemmas.List.Splits.{slice_split_at, slice_split-cons_no}
-use Rattle.std.proofs.lemmas.List.Sums.{AllPass-from_list_all, suffix_len_is}
+use Rattle.std.proofs.lemmas.List.Sums.{AllPass-from_list_all}
 use Rattle.buck_record.specs.Item.{ItemParts}
 use Rattle.buck_record.specs.declared.slot.Slot.{Slot}
 use Rattle.buck_record.specs.bytes.White.{is_white, trim}
@@ -19,19 +19,15 @@ unfoldable use Rattle.buck_record.specs.Reading.{each_from}
 use Rattle.buck_record.specs.bytes.Record.{is_tilde, filled_parts}
 unfoldable use Rattle.buck_record.specs.bytes.Record.{item_of, items_of, numbers_of, number_at_most}
 use Rattle.buck_record.specs.pass.Cursor.{HasItems, item_in}
-use Rattle.buck_record.proofs.NumberLemmas.{numeral}
-use Rattle.buck_record.proofs.RoundLemmas.{digit_dark, dark, number-decimal}
+use Rattle.buck_record.proofs.NumberLemmas.{numeral, digit_dark}
+use Rattle.buck_record.proofs.RoundLemmas.{dark, number-decimal}
+use Rattle.buck_record.proofs.WhiteLemmas.{StartsDark, EndsDark, trim_dark}
+use Rattle.buck_record.proofs.WordLemmas.{start_white}
 use Rattle.buck_record.specs.writing.Line.{item_text}
 
--- a byte that isn't a tilde, a text whose first byte isn't white, and one whose last isn't
+-- a byte that isn't a tilde
 abbrev pub IsPlain : ℕ → Type 0
 IsPlain b = is_tilde b ≡ false
-
-abbrev pub StartsDark : List ℕ → Type 0
-StartsDark xs = (0 < length xs) × (is_white (get_or xs 0 0) ≡ false)
-
-abbrev pub EndsDark : List ℕ → Type 0
-EndsDark xs = (0 < length xs) × (is_white (get_or xs (length xs - 1) 0) ≡ false)
 
 digit_plain : (c : ℕ) → is_ascii_digit c ≡ true → is_tilde c ≡ false
 digit_plain c h = grind (arith, nat_tests)
@@ -59,22 +55,6 @@ pub starts_append : (xs zs : List ℕ) → StartsDark xs → StartsDark (xs ++ z
 starts_append [] zs h = absurd (let pos = h.0 in omega arith)
 starts_append (x ∷ xs) zs h = (omega arith, h.1)
 
-pub start_dark : (xs : List ℕ) → StartsDark xs → trim_start xs ≡ xs
-unfolding trim_start
-start_dark [] h = refl
-start_dark (x ∷ xs) h = rw h.1 refl
-
-pub end_dark : (xs : List ℕ) → EndsDark xs → trim_end xs ≡ xs
-unfolding trim_end
-end_dark xs h = search (rules, suffix_len_is, take_all)
-
-pub trim_dark : (xs : List ℕ) → StartsDark xs → EndsDark xs → trim xs ≡ xs
-trim_dark xs s e = ap trim_end (start_dark xs s) ∙ end_dark xs e
-
-pub start_white : (w : ℕ) (xs : List ℕ) → is_white w ≡ true → trim_start (w ∷ xs) ≡ trim_start xs
-unfolding trim_start
-start_white w xs h = grind (arith, common_steps)
-
 -- a line feed before the parts of a file makes no difference
 feed_first : (parts : List (List ℕ)) → filled_parts (onto_first 10 parts) ≡ filled_parts parts
 unfolding trim_start trim_end
@@ -101,7 +81,8 @@ part_says part left item items plain trimmed some is h = grind (arith, slice_spl
 one_past : (n x : ℕ) (xs : List ℕ)
     → (take (1 + n) (x ∷ xs) ≡ x ∷ take n xs) × (drop (1 + n + 1) (x ∷ xs) ≡ drop (n + 1) xs)
 one_past n x xs =
-    let one : 1 + n ≡ suc n = omega arith in let two : 1 + n + 1 ≡ suc (n + 1) = omega arith in (rw one refl, rw two refl)
+    let one : 1 + n ≡ suc n = omega arith in
+    let two : 1 + n + 1 ≡ suc (n + 1) = omega arith in (rw one refl, rw two refl)
 
 -- the first word of a text, and what is after it
 word_of : (xs : List ℕ) (w : ℕ) (ys : List ℕ) → is_white w ≡ true → AllByRecursion (λ b. is_white b ≡ false) xs

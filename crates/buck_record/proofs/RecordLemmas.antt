@@ -4,7 +4,7 @@ use Rattle.std.proofs.lemmas.Bool.{cases_lt}
 use Rattle.buck_record.specs.bytes.White.{trim_start, first_word, after_word}
 use Rattle.buck_record.specs.bytes.Record.{number_at_most, number_of}
 use Rattle.buck_record.proofs.WordLemmas.{words-none, words-first}
-use Rattle.buck_record.proofs.CutLemmas.{no_word}
+use Rattle.buck_record.proofs.NumberLemmas.{no_word}
 
 module _ (most : ℕ) (text : List ℕ) where
   pub number_of-bad : number_at_most most (first_word (trim_start text)) ≡ None → number_of most text ≡ Err 1

@@ -1,5 +1,5 @@
 -- What is written is read again.
-use Rattle.std.proofs.Common.{◌≡◌, ℕ, suc, ◌≤◌, ◌+◌, ◌<◌, ◌^◌, true, false, List, [], ◌∷◌, ◌++◌, Some, Ok, get_or, length, filter, map, refl, ap, ◌∙◌, arith}
+use Rattle.std.proofs.Common.{◌≡◌, ℕ, ◌≤◌, ◌+◌, ◌<◌, ◌^◌, true, false, List, [], ◌∷◌, ◌++◌, Some, Ok, get_or, length, filter, map, refl, ap, ◌∙◌, arith}
 use Rattle.std.specs.List.{slice_split, All, AllByRecursion}
 use Rattle.std.specs.Char.{is_ascii_digit}
 use Rattle.std.specs.Fmt.{decimal}
@@ -8,23 +8,19 @@ use Rattle.std.proofs.lemmas.Fmt.{digits_decimal, digits_value-decimal, decimal_
 use Rattle.std.proofs.lemmas.List.Splits.{slice_split_none, slice_split_at}
 use Rattle.std.proofs.lemmas.List.{append-nil}
 use Rattle.std.proofs.lemmas.Bool.{cond-true, lt-ltb}
-use Rattle.std.proofs.lemmas.Bool.Decides.{nat_tests}
 use Rattle.std.proofs.lemmas.List.Sums.{AllPass-from_list_all}
 use Rattle.buck_record.specs.bytes.White.{is_white, is_filled, words}
 use Rattle.buck_record.specs.Reading.{each_from}
 use Rattle.buck_record.specs.bytes.Record.{number_at_most, numbers_of}
 use Rattle.buck_record.specs.writing.Written.{spelled, blank}
 unfoldable use Rattle.buck_record.specs.writing.Written.{spaced}
-use Rattle.buck_record.proofs.NumberLemmas.{numeral, number-some}
+use Rattle.buck_record.proofs.NumberLemmas.{numeral, number-some, digit_dark}
 
 pub number-decimal : (most n : ℕ) → n ≤ most → most < 2 ^ 64 → number_at_most most (decimal n) ≡ Some n
 number-decimal most n le bound =
     let value : digits_value 10 (decimal n) ≡ n = digits_value-decimal numeral n (omega arith) in
     number-some most (decimal n) (digits_decimal numeral n (omega arith)) (decimal_nonempty n (omega arith))
     (omega (arith, value)) ∙ ap (λ v. Some v) value
-
-pub digit_dark : (c : ℕ) → is_ascii_digit c ≡ true → is_white c ≡ false
-digit_dark c h = grind (arith, nat_tests)
 
 -- no whitespace byte in digits
 pub dark : (n : ℕ) → n < 2 ^ 64 → All (λ b. is_white b ≡ false) (decimal n)
@@ -70,10 +66,6 @@ each-decimal : (most k : ℕ) (ns : List ℕ) → most < 2 ^ 64 → AllByRecursi
 unfolding each_from
 each-decimal most k [] bound h = refl
 each-decimal most k (n ∷ ns) bound h = rw (number-decimal most n h.0 bound, each-decimal most (k + 1) ns bound h.1) refl
-
-pub from_all : (P : ℕ → Type 0) (ns : List ℕ) → All P ns → AllByRecursion P ns
-from_all P [] h = tt
-from_all P (n ∷ ns) h = (h 0 0 (omega arith), from_all P ns (λ k d lt. h (suc k) d (omega arith)))
 
 pub smaller : (ns : List ℕ) → AllByRecursion (λ n. n ≤ 4294967295) ns → AllByRecursion (λ n. n < 2 ^ 64) ns
 smaller [] h = tt

@@ -1,12 +1,10 @@
 -- Numbers with whitespace before them, and names, as what items say.
-use Rattle.std.proofs.Common.{◌≡◌, ℕ, ◌+◌, ◌-◌, ◌<◌, ◌≤◌, ◌^◌, List, [], ◌∷◌, ◌++◌, All, Ok, get_or, length, take, drop, map, refl, sym, ap, ◌∙◌, subst, arith, append_assoc, inl, inr, drop-cons, add-one}
-use Rattle.std.specs.List.{AllByRecursion, suffix_len, prefix_len}
+use Rattle.std.proofs.Common.{◌≡◌, ℕ, ◌+◌, ◌<◌, ◌≤◌, ◌^◌, List, [], ◌∷◌, ◌++◌, All, Ok, get_or, length, drop, map, refl, sym, ap, ◌∙◌, subst, arith, append_assoc, inl, inr, drop-cons, add-one}
+use Rattle.std.specs.List.{AllByRecursion}
 use Rattle.std.specs.Fmt.{decimal}
-use Rattle.std.proofs.lemmas.Bool.{cases_Bool}
-use Rattle.std.proofs.lemmas.List.{append-nil, drop_all, take_all, length-drop, length-take-le}
+use Rattle.std.proofs.lemmas.List.{append-nil, drop_all}
 use Rattle.std.proofs.lemmas.List.Elements.{All-append, All-cons, All-nil}
-use Rattle.std.proofs.lemmas.List.Sums.{suffix_len-take_yes, suffix_len-le-length}
-use Rattle.buck_record.specs.bytes.White.{is_white, trim}
+use Rattle.buck_record.specs.bytes.White.{trim}
 unfoldable use Rattle.buck_record.specs.bytes.White.{trim_start, trim_end, words}
 use Rattle.buck_record.specs.Reading.{each_from}
 use Rattle.buck_record.specs.bytes.Record.{number_at_most}
@@ -14,7 +12,8 @@ unfoldable use Rattle.buck_record.specs.bytes.Record.{numbers_of}
 use Rattle.buck_record.specs.writing.Written.{spelled}
 use Rattle.buck_record.proofs.RoundLemmas.{AreWhite, smaller, split-spaced, numbers_again, words-spelled}
 unfoldable use Rattle.buck_record.specs.writing.Written.{spaced}
-use Rattle.buck_record.proofs.LineLemmas.{IsPlain, StartsDark, EndsDark, IsSaid, ends_decimal, starts_decimal, plain_decimal, ends_append, starts_append, start_dark, white_plain}
+use Rattle.buck_record.proofs.LineLemmas.{IsPlain, IsSaid, ends_decimal, starts_decimal, plain_decimal, ends_append, starts_append, white_plain}
+use Rattle.buck_record.proofs.WhiteLemmas.{StartsDark, EndsDark, trim_cases}
 
 -- what an item of numbers says, without the whitespace byte after the head
 abbrev pub said : (ℕ → ℕ) → List ℕ → List ℕ
@@ -71,41 +70,12 @@ module _ (white : ℕ → ℕ) (w : AreWhite white) where
   spaced_said n ns = refl
 
 -- a text that trimming leaves as it is
-trim_end_shorter : (xs : List ℕ) → length (trim_end xs) ≤ length xs
-unfolding trim_end
-trim_end_shorter xs = omega (arith, length-take-le (length xs - suffix_len is_white xs) xs (omega arith))
-
-trimmed_starts : (xs : List ℕ) → 0 < length xs → trim xs ≡ xs → StartsDark xs
-unfolding trim_start
-trimmed_starts [] some h = absurd (omega arith)
-trimmed_starts (x ∷ xs) some h =
-    elim (cases_Bool (is_white x)) [
-      | inl white ↦
-          let more : length (trim_start (x ∷ xs)) ≤ length xs =
-          rw white (omega (arith, length-drop (1 + prefix_len is_white xs) (x ∷ xs))) in
-          absurd (omega (arith, more, trim_end_shorter (trim_start (x ∷ xs)), ap length h))
-      | inr dark ↦ (some, dark)
-    ]
-
-trimmed_ends : (xs : List ℕ) → 0 < length xs → trim_end xs ≡ xs → EndsDark xs
-unfolding trim_end
-trimmed_ends xs some h =
-    elim (cases_Bool (is_white (get_or xs (length xs - 1) 0))) [
-      | inl white ↦
-          let last : suffix_len is_white (take (length xs) xs)
-          ≡ 1 + suffix_len is_white (take (length xs - 1) xs) =
-          suffix_len-take_yes is_white xs (length xs) 0 some (omega arith) white in
-          let all : take (length xs) xs ≡ xs = take_all (length xs) xs (omega arith) in
-          let one : suffix_len is_white xs ≡ 1 + suffix_len is_white (take (length xs - 1) xs) = rw all at last in
-          let n : ℕ = length xs - suffix_len is_white xs in
-          absurd (omega (arith, one, some, suffix_len-le-length is_white xs, length-take-le n xs (omega arith), ap length h))
-      | inr dark ↦ (some, dark)
-    ]
-
 pub trimmed_is_dark : (xs : List ℕ) → 0 < length xs → trim xs ≡ xs → StartsDark xs × EndsDark xs
 trimmed_is_dark xs some h =
-    let s = trimmed_starts xs some h in
-    (s, trimmed_ends xs some (ap trim_end (sym (start_dark xs s)) ∙ h))
+    elim (trim_cases xs) [
+      | inl none ↦ absurd (let e : xs ≡ [] = sym h ∙ none in omega (arith, ap length e))
+      | inr d ↦ rw h at d
+    ]
 
 -- numbers of an item are read again
 pub said_again : (white : ℕ → ℕ) → AreWhite white → (ns : List ℕ) → 0 < length ns → AreSmall ns

@@ -28,3 +28,5 @@ decimal_of_four n low high =
     ∙ ap (λ ds. ds ++ (48 + n % 10) ∷ []) (decimal_of_three (n / 10) (omega (arith, low)) (omega (arith, high)))
     ∙ ap (λ t. (48 + t) ∷ (48 + n / 10 / 10 % 10) ∷ (48 + n / 10 % 10) ∷ (48 + n % 10) ∷ []) thousands
     ∙ ap (λ h. (48 + n / 1000) ∷ (48 + h % 10) ∷ (48 + n / 10 % 10) ∷ (48 + n % 10) ∷ []) hundreds
+
+pub ruleset few_digits = (decimal_digit, decimal_of_two, decimal_of_three, decimal_of_four)

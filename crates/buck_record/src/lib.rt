@@ -1,7 +1,7 @@
 //! Files of items: what stands between tildes, each with a number, a kind and a rest.
 //!
-//! [`pieces`] and [`items`] read a file, [`pieces_at`] only the items in some slots; [`numbers`], [`number`] and [`wide`]
-//! read the rest of an item. [`next_in`], [`past_others`] and [`is_done`] go over a file with no list of its items,
+//! [`pieces`] and [`items`] read a file, [`pieces_at`] only the items in some slots; [`numbers`], [`number`] and
+//! [`wide`] read the rest of an item. [`next_in`], [`past_others`] and [`is_done`] go over a file with no list of its items,
 //! [`numbers_into`] reads numbers into a list that is kept, and [`two_parts`] cuts a file for threads.
 //! [`table`] looks items up by number and kind, [`check`] chains the checks of a reader that stands on this crate,
 //! [`rules`] has what such readers share, [`Described`] is what is said of an item, and [`laws`] says that what is

@@ -5,6 +5,7 @@ ghost use Rattle.buck_record.specs.declared.fault.RecordFault.TheVariants.{Memor
 ghost use Rattle.buck_record.specs.Reading.{Gives, listed, with_fault};
 ghost use Rattle.buck_record.specs.bytes.Record.{item_of, items_of, number_at_most, numbers_of, number_of};
 ghost use Rattle.buck_record.specs.checking.Table.{only_in};
+ghost use Rattle.buck_record.specs.inner.Front.{kept};
 ghost use Rattle.buck_record.specs.bytes.White.{first_word, after_word};
 
 use crate::bytes::digits::cut_head;
@@ -35,6 +36,33 @@ pub(crate) fn read_piece<'a>(piece: &'a [u8]) -> Option<Piece<'a>>
     })
 }
 
+/// The items of a file's bytes, as [`pieces`] has them: every one, or those that stand in one of the slots. All others
+/// are read and left out.
+fn pieces_kept<'a>(
+    alloc: Global,
+    bytes: &'a [u8],
+    every: bool,
+    slots: &[Slot],
+) -> Result<Vec<Piece<'a>>, RecordFault>
+    ensures { Gives Memory (listed result)
+        (with_fault (λ k. Head k) (kept every slots.now (items_of bytes.now))) }
+{
+    let mut held = Vec::new(alloc);
+    let mut read = 0usize;
+    let mut rest = bytes;
+    while let Some((piece, left)) = cut_piece(rest) {
+        read += 1;
+        let Some(item) = read_piece(piece) else {
+            return Err(RecordFault::Head { item: read });
+        };
+        if every | is_in(&item, slots) {
+            held.push(item)?;
+        }
+        rest = left;
+    }
+    Ok(held)
+}
+
 /// The items of a file's bytes, in file order, each with its rest borrowed from them.
 ///
 /// The bytes are cut at each tilde. Each piece is trimmed of whitespace (space, tab, line feed, carriage return) at
@@ -45,18 +73,7 @@ pub(crate) fn read_piece<'a>(piece: &'a [u8]) -> Option<Piece<'a>>
 pub fn pieces<'a>(alloc: Global, bytes: &'a [u8]) -> Result<Vec<Piece<'a>>, RecordFault>
     ensures { Gives Memory (listed result) (with_fault (λ k. Head k) (items_of bytes.now)) }
 {
-    let mut held = Vec::new(alloc);
-    let mut rest = bytes;
-    while let Some((piece, left)) = cut_piece(rest) {
-        let Some(item) = read_piece(piece) else {
-            return Err(RecordFault::Head {
-                item: held.len() + 1,
-            });
-        };
-        held.push(item)?;
-        rest = left;
-    }
-    Ok(held)
+    pieces_kept(alloc, bytes, true, &[])
 }
 
 /// The items of a file's bytes that stand in one of the slots, as [`pieces`] has them. All others are read and left
@@ -70,20 +87,7 @@ pub fn pieces_at<'a>(
 ) -> Result<Vec<Piece<'a>>, RecordFault>
     ensures { Gives Memory (listed result) (with_fault (λ k. Head k) (only_in slots.now (items_of bytes.now))) }
 {
-    let mut held = Vec::new(alloc);
-    let mut read = 0usize;
-    let mut rest = bytes;
-    while let Some((piece, left)) = cut_piece(rest) {
-        read += 1;
-        let Some(item) = read_piece(piece) else {
-            return Err(RecordFault::Head { item: read });
-        };
-        if is_in(&item, slots) {
-            held.push(item)?;
-        }
-        rest = left;
-    }
-    Ok(held)
+    pieces_kept(alloc, bytes, false, slots)
 }
 
 fn to_item(alloc: Global, piece: &Piece<'_>) -> Result<Item, AllocError>

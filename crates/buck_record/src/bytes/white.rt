@@ -1,5 +1,5 @@
 //! White bytes, and texts without them at their ends.
-ghost use Rattle.std.specs.Prelude.{◌≡◌, not, position};
+ghost use Rattle.std.specs.Prelude.{◌≡◌};
 ghost use Rattle.buck_record.specs.bytes.White.{is_white, trim_start, trim_end, trim};
 
 /// Whether the byte is a space, a tab, a line feed or a carriage return.
@@ -9,20 +9,16 @@ pub(crate) fn is_white(byte: u8) -> bool
     byte == b' ' || byte == b'\t' || byte == b'\n' || byte == b'\r'
 }
 
-fn first_dark(bytes: &[u8]) -> Option<usize>
-    ensures { result ≡ position (λ b. not (is_white b)) bytes.now }
-{
-    bytes.iter().position(|b| !is_white(*b))
-}
-
 /// The bytes from the first that is not white on.
 pub(crate) fn trim_start(bytes: &[u8]) -> &[u8]
     ensures { result.now ≡ trim_start bytes.now }
 {
-    match first_dark(bytes) {
-        None => &bytes[bytes.len()..],
-        Some(first) => &bytes[first..],
+    for i in 0..bytes.len() {
+        if !is_white(bytes[i]) {
+            return &bytes[i..];
+        }
     }
+    &bytes[bytes.len()..]
 }
 
 /// The bytes up to the last that is not white.

@@ -1,27 +1,13 @@
 //! The numbers of a text, in a list that is kept from text to text.
 ghost use Rattle.std.specs.Prelude.{◌≡◌, ◌+◌, ◌*◌, ◌<◌, ◌≤◌, ◌++◌, length, IsTrue, IsFalse, IfOk, IfSome, IfNone, OnErr, None, Ok, Err, []};
 ghost use Rattle.std.specs.Vec.{vec_len, vec_capacity};
-ghost use Rattle.buck_record.specs.bytes.Record.{number_at_most, numbers_of};
-ghost use Rattle.buck_record.specs.bytes.White.{first_word};
-ghost use Rattle.buck_record.specs.inner.Front.{IsFront, IsStep, IsStuck, HasRoom, four_of};
+ghost use Rattle.buck_record.specs.bytes.Record.{numbers_of};
+ghost use Rattle.buck_record.specs.inner.Front.{adds_on, HasRoom, four_of};
 
 use crate::bytes::digits::cut_number;
 use crate::bytes::white::is_white;
 use crate::pass::lanes::front_fours;
 use std::alloc::AllocError;
-
-/// The number that a text begins with, and what is left after it.
-#[inline(always)]
-fn front_number(text: &[u8]) -> Option<(u32, &[u8])>
-    requires { 0 < length (first_word text.now) }
-    ensures front { IfSome result (λ w. IsFront text.now w.0 w.1.now) }
-    ensures none { IfNone result (number_at_most 4294967295 (first_word text.now) ≡ None) }
-{
-    match cut_number(4_294_967_295, text) {
-        None => None,
-        Some((value, after)) => Some((value as u32, after)),
-    }
-}
 
 /// Passes over the byte that a text begins with, if that is white; or else adds the number that it begins with. What
 /// is left after it, and `None` if there is no such number.
@@ -29,18 +15,19 @@ fn front_number(text: &[u8]) -> Option<(u32, &[u8])>
 fn append_word<'a>(text: &'a [u8], out: &mut Vec<u32>) -> Option<&'a [u8]>
     requires some { 0 < length text.now }
     requires room { HasRoom (vec_len out.old) (vec_capacity out.old) (length text.now) }
-    ensures step { IfSome result (λ left. IsStep text.now left.now out.old.items out.new.items) }
+    ensures step { IfSome result (λ left. adds_on out.new.items left.now ≡ adds_on out.old.items text.now) }
+    ensures shorter { IfSome result (λ left. length left.now < length text.now) }
     ensures room { IfSome result (λ left. 0 < length left.now
         → HasRoom (vec_len out.new) (vec_capacity out.new) (length left.now)) }
-    ensures stuck { IfNone result (IsStuck text.now × (out.new.items ≡ out.old.items)) }
+    ensures stuck { IfNone result (adds_on out.old.items text.now ≡ Err (length out.new.items + 1)) }
 {
     if is_white(text[0]) {
         return Some(&text[1..]);
     }
-    let Some((value, left)) = front_number(text) else {
+    let Some((value, left)) = cut_number(4_294_967_295, text) else {
         return None;
     };
-    out.push_reserved(value);
+    out.push_reserved(value as u32);
     Some(left)
 }
 

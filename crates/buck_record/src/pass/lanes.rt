@@ -79,7 +79,7 @@ fn four_threes(groups: u32x4) -> Option<[u32; 4]>
 /// The numbers that a text begins with, if these are four times three digits and a space.
 #[inline(always)]
 pub(crate) fn front_fours(text: &[u8]) -> Option<[u32; 4]>
-    ensures { IfSome result (λ vs. HasFronts text.now vs (drop 16 text.now)) }
+    ensures { IfSome result (λ vs. HasFronts text.now vs) }
 {
     if text.len() < 16 {
         return None;

@@ -1,7 +1,7 @@
 use Rattle.std.proofs.Common.{◌≡◌, ◌<◌, length, sym, arith}
 use Rattle.std.proofs.lemmas.Grind.{common_steps}
-use Rattle.buck_record.proofs.CutLemmas.{no_word}
-use Rattle.buck_record.proofs.GroupLemmas.{filled_word}
+use Rattle.buck_record.proofs.NumberLemmas.{no_word}
+use Rattle.buck_record.proofs.WordLemmas.{filled_word}
 use Rattle.buck_record.proofs.bytes.digits.cut_head.Goals as goal
 
 pub returns-then-is_empty-clause-value : goal.returns-then-is_empty-clause-value

@@ -1,8 +1,7 @@
-use Rattle.std.proofs.Common.{◌≡◌, ◌<◌, length, arith, rules}
+use Rattle.std.proofs.Common.{◌≡◌, ◌<◌, length, length-drop, arith, sym, ◌∙◌}
 use Rattle.std.proofs.lemmas.Grind.{common_steps}
 use Rattle.std.proofs.lemmas.List.{take_rest}
-use Rattle.buck_record.specs.inner.Front.{IsStuck}
-use Rattle.buck_record.proofs.AddLemmas.{none_yet, add_four, step, stuck, all_read}
+use Rattle.buck_record.proofs.EachLemmas.{none_yet, add_four, all_read}
 use Rattle.buck_record.proofs.pass.kept_numbers.append_each.Goals as goal
 
 pub loop-rest-init : goal.loop-rest-init
@@ -13,30 +12,28 @@ loop-rest-init c = record {
 
 pub loop-rest-preserved-in-Some : goal.loop-rest-preserved-in-Some
 loop-rest-preserved-in-Some c =
-    let some : 0 < length c.loop-rest.rest.now =
-    grind (arith, common_steps, c.is_empty.ensures, c.loop-rest-test.true) in
-    let left = take_rest c.loop-rest.rest.now 16 in
+    let rest = c.loop-rest.rest.now in
+    let some : 0 < length rest = grind (arith, common_steps, c.is_empty.ensures, c.loop-rest-test.true) in
     let room = c.loop-rest.invariant.room some in
-    record {
-      adding = rw left
-          (add_four _ _ _ _ _ c.in-Some.values c.loop-rest.invariant.adding c.in-Some.ensures c.append_four.ensures.items);
-      room = λ more. rw left
-          (omega (arith, c.append_four.ensures.len, c.append_four.ensures.capacity, c.in-Some.ensures.long, room));
-    }
+    rw (take_rest rest 16)
+    (record {
+      adding = rw c.append_four.ensures.items (add_four c.loop-rest.out.items rest c.in-Some.values c.in-Some.ensures)
+          ∙ c.loop-rest.invariant.adding;
+      room = λ more. omega
+          (arith, c.append_four.ensures, c.in-Some.ensures.long, length-drop 16 rest, room);
+    })
 
 pub loop-rest-preserved : goal.loop-rest-preserved
 loop-rest-preserved c = record {
-  adding = step _ _ _ _ _ c.loop-rest.invariant.adding c.in-Some-append_word.ensures.step;
+  adding = c.in-Some-append_word.ensures.step ∙ c.loop-rest.invariant.adding;
   room = c.in-Some-append_word.ensures.room;
 }
 
 pub returns-in_default-clause-refused : goal.returns-in_default-clause-refused
-returns-in_default-clause-refused c = λ _.
-    let word : IsStuck c.loop-rest.rest.now × (c.append_word.new.out.items ≡ c.loop-rest.out.items) = search rules in
-    rw word.1 (stuck _ _ _ c.loop-rest.invariant.adding word.0)
+returns-in_default-clause-refused c = λ _. sym c.loop-rest.invariant.adding ∙ c.in_default.ensures.stuck
 
 pub returns-clause-read : goal.returns-clause-read
 returns-clause-read c =
     let empty : length c.loop-rest.rest.now ≡ 0 =
     grind (arith, common_steps, c.is_empty.ensures, c.loop-rest-test.false) in
-    λ _. all_read _ _ _ c.loop-rest.invariant.adding empty
+    λ _. sym c.loop-rest.invariant.adding ∙ all_read c.loop-rest.out.items c.loop-rest.rest.now empty

@@ -1,6 +1,6 @@
 use Rattle.std.proofs.Common.{get_or, arith, rules, Fits, w32, IsTrue}
 use Rattle.std.proofs.lemmas.Simd.{Each1-get_or}
-use Rattle.buck_record.proofs.LaneLemmas.{lane_three}
+use Rattle.buck_record.proofs.FourLemmas.{lane_three}
 use Rattle.buck_record.proofs.pass.lanes.four_threes.Goals as goal
 
 pub returns : goal.returns

@@ -1,4 +1,4 @@
-use Rattle.buck_record.proofs.LaneLemmas.{greatest_len, greatest_lane}
+use Rattle.buck_record.proofs.FourLemmas.{greatest_len, greatest_lane}
 use Rattle.buck_record.proofs.pass.lanes.greater.Goals as goal
 
 pub returns-clause-lanes : goal.returns-clause-lanes

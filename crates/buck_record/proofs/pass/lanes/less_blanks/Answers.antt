@@ -1,5 +1,5 @@
 use Rattle.std.proofs.Common.{◌+◌, ◌-◌, ◌%◌}
-use Rattle.buck_record.proofs.LaneLemmas.{lanes_with}
+use Rattle.buck_record.proofs.FourLemmas.{lanes_with}
 use Rattle.buck_record.proofs.pass.lanes.less_blanks.Goals as goal
 
 pub returns : goal.returns

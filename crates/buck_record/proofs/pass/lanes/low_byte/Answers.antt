@@ -1,4 +1,4 @@
-use Rattle.buck_record.proofs.LaneLemmas.{low_of}
+use Rattle.buck_record.proofs.FourLemmas.{low_of}
 use Rattle.buck_record.proofs.pass.lanes.low_byte.Goals as goal
 
 pub returns : goal.returns

@@ -1,5 +1,5 @@
 use Rattle.std.proofs.Common.{◌+◌, ◌%◌}
-use Rattle.buck_record.proofs.LaneLemmas.{lanes_of}
+use Rattle.buck_record.proofs.FourLemmas.{lanes_of}
 use Rattle.buck_record.proofs.pass.lanes.plus.Goals as goal
 
 pub returns : goal.returns
