@@ -34,7 +34,7 @@ pub use item::{Item, Piece};
 pub use listed::Listed;
 pub use memory::Memory;
 pub use numbered::{FaultNumbers, Numbered};
-pub use pass::cursor::{is_done, next_in, past_others};
+pub use pass::cursor::{is_done, next_in, next_of, past_others};
 pub use pass::kept_numbers::numbers_into;
 pub use pass::parts::two_parts;
 pub use slot::Slot;

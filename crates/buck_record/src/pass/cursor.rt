@@ -1,9 +1,10 @@
 //! Items, one after the other, with no list of them.
-ghost use Rattle.std.specs.Prelude.{◌≡◌, ◌<◌, [], ◌∷◌, List, length, position, IfSome, IfNone, IsTrue};
+ghost use Rattle.std.specs.Prelude.{◌≡◌, ◌<◌, [], ◌∷◌, List, length, position, true, IfSome, IfNone, IsTrue};
 ghost use Rattle.std.specs.List.{before_first, after_first};
 ghost use Rattle.buck_record.specs.Item.{ItemParts};
 ghost use Rattle.buck_record.specs.bytes.Record.{is_tilde, pieces};
 ghost use Rattle.buck_record.specs.pass.Cursor.{HasItems, HasItemsIn, Leads, item_in};
+ghost use Rattle.buck_record.specs.checking.Table.{is_in};
 
 use crate::bytes::reading::read_piece;
 use crate::bytes::white::trim;
@@ -76,6 +77,26 @@ pub fn next_in(slot: Slot, text: &[u8]) -> Option<(&[u8], &[u8])>
         return None;
     }
     Some((item.rest, left))
+}
+
+/// The rest of the first item of a text that stands in one of the slots, if it stands in this one of them, and what is
+/// left of the text after the tilde that ends it. `None` if there is no such item, or it stands in another.
+pub fn next_of<'a>(slot: Slot, slots: &[Slot], text: &'a [u8]) -> Option<(&'a [u8], &'a [u8])>
+    requires { is_in slots.now (item_in slot []) ≡ true }
+    ensures { IfSome result (λ w. (items : List ItemParts) → HasItemsIn slots.now w.1.now items
+        → HasItemsIn slots.now text.now (item_in slot w.0.now ∷ items)) }
+{
+    let mut rest = text;
+    while let Some((item, left)) = next_item(rest) {
+        if item.number == slot.number && item.kind == slot.kind {
+            return Some((item.rest, left));
+        }
+        if is_in(&item, slots) {
+            return None;
+        }
+        rest = left;
+    }
+    None
 }
 
 /// What is left of a text after the items that it begins with and that stand in none of the slots.

@@ -7,7 +7,7 @@ ghost use Rattle.std.specs.Prelude.{◌≡◌, [], IfOk, IfSome, Ok, true};
 ghost use Rattle.buck_record.specs.pass.Cursor.{item_in};
 ghost use Rattle.buck_record.specs.checking.Table.{is_in};
 ghost use Rattle.buck_stem.specs.file.Stm.{table, stm_of};
-ghost use Rattle.buck_stem.specs.inner.Plain.{LeadsItem, LeadsNumbers, LeadsZones, LeadsDraft, LeadsStem, HasStems, IsBodyOf};
+ghost use Rattle.buck_stem.specs.inner.Plain.{LeadsNumbers, LeadsZones, LeadsDraft, LeadsStem, HasStems, IsBodyOf};
 
 use crate::file::draft::Draft;
 use crate::file::fault::StmFault;
@@ -16,20 +16,8 @@ use crate::file::reading::stem_from;
 use crate::file::slots::{SAMPLES, SPECIES, STEM, TABLE, ZONES};
 use crate::stem::Stem;
 use buck_record::rules::FILE;
-use buck_record::{Listed, Slot, is_done, next_in, numbers_into, past_others};
+use buck_record::{Listed, Slot, is_done, next_of, numbers_into, past_others};
 use std::alloc::Global;
-
-/// The rest of the first item of the table that a text has, if that stands in this slot, and what is left after it.
-fn next_kept(slot: Slot, text: &[u8]) -> Option<(&[u8], &[u8])>
-    requires { is_in table (item_in slot []) ≡ true }
-    ensures { IfSome result (λ w. LeadsItem text.now (item_in slot w.0.now) w.1.now) }
-{
-    // Mostly it stands at the front: then one head is read.
-    match next_in(slot, text) {
-        Some(found) => Some(found),
-        None => next_in(slot, past_others(&TABLE, text)),
-    }
-}
 
 /// Reads the numbers of the first item of the table that a text has, if that stands in this slot, into `room`; and what
 /// is left after it.
@@ -37,7 +25,7 @@ fn next_numbers<'a>(room: &mut Vec<u32>, slot: Slot, text: &'a [u8]) -> Result<&
     requires { is_in table (item_in slot []) ≡ true }
     ensures { IfOk result (λ left. LeadsNumbers slot text.now room.new.items left.now) }
 {
-    let Some((rest, left)) = next_kept(slot, text) else {
+    let Some((rest, left)) = next_of(slot, &TABLE, text) else {
         return Err(StmFault::NotStm);
     };
     if !numbers_into(rest, room)? {
@@ -50,7 +38,7 @@ fn next_numbers<'a>(room: &mut Vec<u32>, slot: Slot, text: &'a [u8]) -> Result<&
 fn next_zones<'a>(room: &mut Vec<u32>, text: &'a [u8]) -> Result<&'a [u8], StmFault>
     ensures { IfOk result (λ left. LeadsZones text.now room.new.items left.now) }
 {
-    let Some((rest, left)) = next_kept(ZONES, text) else {
+    let Some((rest, left)) = next_of(ZONES, &TABLE, text) else {
         room.clear();
         return Ok(text);
     };
@@ -122,7 +110,7 @@ pub(crate) fn stems_of(alloc: Global, body: &[u8]) -> Result<Vec<Stem>, StmFault
 pub(crate) fn body_of(bytes: &[u8]) -> Result<&[u8], StmFault>
     ensures { IfOk result (λ body. IsBodyOf bytes.now body.now) }
 {
-    let Some((kind, body)) = next_kept(FILE, bytes) else {
+    let Some((kind, body)) = next_of(FILE, &TABLE, bytes) else {
         return Err(StmFault::NotStm);
     };
     if kind != b"STM".as_slice() {
