@@ -93,7 +93,7 @@ WIDE = {
 # So many functions have more parameters today. None may be added; a crate that isn't named has none.
 MANY = {
     "buck_c_calls": 1,
-    "buckfleet_engine": 1,
+    "buckfleet_engine_cross_check": 1,
     "fixture_plays": 2,
     "test_surface": 2,
     "wrong_engine": 1,

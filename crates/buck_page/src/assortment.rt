@@ -2,7 +2,7 @@
 ghost use Rattle.std.specs.Prelude.{◌<◌, length};
 
 use crate::degrees::is_steered;
-use crate::harvesters::mean_log;
+use crate::rates::mean_log;
 use buck_apt::Assortment;
 use buck_page_charts::{write_degree_chart, write_matrices, write_price_chart};
 use buck_page_figures::{Figures, Part};

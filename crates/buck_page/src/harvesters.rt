@@ -1,29 +1,9 @@
 //! What each harvester cut, and what its grades and steering cost.
-ghost use Rattle.std.specs.Prelude.{◌<◌, ◌^◌};
-
 use crate::list::{Group, LIST_END, open_list};
-use crate::rates::{length_left, rate_of, steering_rate};
+use crate::rates::{length_left, mean, mean_log, rate_of, steering_rate};
 use buck_page_figures::{Figures, Free, GradeFree, Sums};
-use buck_page_text::{Fixed, Grouped, Known, Millionths, half_up};
+use buck_page_text::{Grouped, Millionths, half_up};
 use buck_record::Memory;
-
-/// The volume of a stem's logs in thousandths of a cubic metre, in the mean of some, if there are any.
-fn each_stem(sums: &Sums) -> Known {
-    if sums.stems == 0 {
-        return Known(None);
-    }
-    Known(Some(Fixed::of(half_up(sums.volume, 1000 * u128::from(sums.stems)), 3)))
-}
-
-/// How long a log is in cm, in the mean of some, if there are any.
-pub(crate) fn mean_log(logged: u128, logs: u128) -> Known
-    requires { (logged < 2 ^ 125) × (logs < 2 ^ 121) }
-{
-    if logs == 0 {
-        return Known(None);
-    }
-    Known(Some(Fixed::of(half_up(logged, 10 * logs), 2)))
-}
 
 /// What a cubic metre of the logs is worth at base prices, if there is any wood.
 fn write_each(out: &mut String, sums: &Sums) -> Result<(), Memory> {
@@ -38,13 +18,14 @@ fn write_each(out: &mut String, sums: &Sums) -> Result<(), Memory> {
 
 /// Writes the figures of some postings, after the head of their row.
 fn write_sums(out: &mut String, sums: &Sums) -> Result<(), Memory> {
+    let stems = u128::from(sums.stems);
     write!(
         out,
         "<td>{}</td><td>{}</td><td>{}</td><td>{}</td><td>{}</td><td>{}</td><td>{}</td>",
-        Grouped(u128::from(sums.stems)),
+        Grouped(stems),
         Grouped(sums.logs),
         Millionths(sums.volume),
-        each_stem(sums),
+        mean(sums.volume, 1000 * stems, 3),
         mean_log(sums.logged, sums.logs),
         length_left(sums),
         Millionths(sums.at_base)
@@ -90,10 +71,10 @@ fn write_cost(out: &mut String, sums: &Sums, free: Option<&Free>) -> Result<(), 
          <td class=first><b>{}</b></td><td><b>{}</b></td><td class=first>{}</td></tr>",
         Millionths(free),
         Millionths(grades),
-        Known(rate_of(grades, free)),
+        rate_of(grades, free),
         Millionths(sums.best),
         Millionths(sums.cost()),
-        Known(steering_rate(sums)),
+        steering_rate(sums),
         Millionths(sums.at_base)
     )?)
 }

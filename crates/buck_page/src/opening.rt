@@ -75,7 +75,7 @@ fn write_length_tile(out: &mut String, total: &Sums) -> Result<(), Memory> {
 
 /// Writes what steering cost.
 fn write_account(out: &mut String, total: &Sums) -> Result<(), Memory> {
-    let rate = match steering_rate(total) {
+    let rate = match steering_rate(total).0 {
         Some(rate) => rate,
         None => Fixed::of(0, 2),
     };
@@ -94,29 +94,22 @@ fn write_account(out: &mut String, total: &Sums) -> Result<(), Memory> {
     )?)
 }
 
-/// What was checked of so many journals.
-#[derive(Clone, Copy)]
-struct Checked(usize);
-
-impl fmt::Display for Checked {
-    fn fmt<W: fmt::Write>(&self, f: &mut fmt::Formatter<W>) -> fmt::Result {
-        let journals = self.0;
-        if journals > 1 {
-            write!(f, "{journals} journals, each lawful by itself")
-        } else {
-            write!(f, "lawful")
-        }
-    }
-}
-
 /// Writes the verdict: what was checked, and how far prices may move.
 fn write_verdict(out: &mut String, figures: &Figures<'_>, journals: usize) -> Result<(), Memory> {
     let limit = figures.instruction.limit();
     write!(
         out,
-        "<p class=\"verdict\">{SIGN}\"M5,10L9,14L15,6\"/></svg><span><b>Checked: {}.</b> Every stem was cut for the \
-         most worth at the prices then in force, and prices moved only as targets and logs allow",
-        Checked(journals)
+        "<p class=\"verdict\">{SIGN}\"M5,10L9,14L15,6\"/></svg><span><b>Checked: "
+    )?;
+    if journals > 1 {
+        write!(out, "{journals} journals, each lawful by itself")?;
+    } else {
+        write!(out, "lawful")?;
+    }
+    write!(
+        out,
+        ".</b> Every stem was cut for the most worth at the prices then in force, and prices moved only as targets and \
+         logs allow"
     )?;
     if limit > 0 {
         write!(

@@ -47,20 +47,11 @@ fn is_level(stem: &Stem, from: u32, to: u32, x: u32) -> bool
     before == diameter && after == diameter
 }
 
-/// A stretch of a stem, in mm from the butt.
-#[derive(Clone, Copy)]
-struct Stretch {
-    from: u32,
-    to: u32,
-    ghost order: { from ≤ to },
-}
-
 /// The side of a stretch of a stem: its ends, and the places each 100 mm between that say something, in mm from the
 /// butt, each with its diameter.
-fn side_of(alloc: Global, stem: &Stem, stretch: Stretch) -> Result<Vec<(u32, u32)>, Memory>
-    requires { stretch.to ≤ stem_length stem.now.samples }
+fn side_of(alloc: Global, stem: &Stem, from: u32, to: u32) -> Result<Vec<(u32, u32)>, Memory>
+    requires { (from ≤ to) × (to ≤ stem_length stem.now.samples) }
 {
-    let Stretch { from, to } = stretch;
     let mut side = Vec::new(alloc);
     side.push((from, stem.diameter_at(from)))?;
     for k in from / 100 + 1..to.div_ceil(100) {
@@ -81,12 +72,13 @@ fn write_stretch(
     alloc: Global,
     out: &mut String,
     stem: &Stem,
-    stretch: Stretch,
+    from: u32,
+    to: u32,
     most: u32,
 ) -> Result<(), Memory>
-    requires { stretch.to ≤ stem_length stem.now.samples }
+    requires { (from ≤ to) × (to ≤ stem_length stem.now.samples) }
 {
-    let side = side_of(alloc, stem, stretch)?;
+    let side = side_of(alloc, stem, from, to)?;
     for place in side.as_slice() {
         write!(out, "{},{} ", place.0, most.saturating_sub(place.1))?;
     }
@@ -112,7 +104,7 @@ fn write_log(
     let to = log.start.saturating_add(log.length).min(stem.length());
     let from = log.start.min(to);
     write!(out, "<polygon class=\"log a{}\" points=\"", log.assortment)?;
-    write_stretch(alloc, out, stem, Stretch { from, to }, scale.most)?;
+    write_stretch(alloc, out, stem, from, to, scale.most)?;
     Ok(write!(
         out,
         "\"><title>{}: {} mm from {} mm, top {} mm, price {}, worth {}</title></polygon>",
@@ -150,11 +142,7 @@ pub(crate) fn write_drawing(
         }
     }
     write!(out, "<polygon class=\"waste\" points=\"")?;
-    let all = Stretch {
-        from: 0,
-        to: stem.length(),
-    };
-    write_stretch(alloc, out, stem, all, scale.most)?;
+    write_stretch(alloc, out, stem, 0, stem.length(), scale.most)?;
     write!(out, "\"/>")?;
     for piece in cut.pieces.as_slice() {
         write_log(alloc, out, stem, piece, scale)?;

@@ -94,7 +94,8 @@ pub(crate) fn write_reasons(
             begun = true;
         }
     }
-    let harvester = pick.entry.harvester;
+    let entry = pick.entry;
+    let harvester = entry.harvester;
     if let Some(own) = figures.harvesters.get(&harvester) {
         if own.first == position {
             let its = if begun { "; harvester" } else { "Harvester" };
