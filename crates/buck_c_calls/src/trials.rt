@@ -8,7 +8,7 @@ ghost use Rattle.buck_c_calls.specs.inner.Stopped.{Tells};
 
 use crate::asked::{DrawnRun, DrawnRuns, Run, combination_of, combinations_of, draws_of};
 use crate::several::{Handed, Stop, ended, hand_over, put_answer};
-use buckfleet_engine_files::Nobody;
+use buckfleet_engine_files::{Nobody, OneThread};
 use buckfleet_trial::{Opened, TrialTask, TuneTask, WishesTask, run_trial, run_tune, run_wishes};
 use std::alloc::Global;
 
@@ -106,9 +106,10 @@ fn tuned(alloc: Global, files: &[u8], lengths: &[usize], run: &Run) -> Result<Ve
         apt: "",
         stms: Vec::new(alloc),
         targets: None,
+        threads: None,
     };
     let mut text = Vec::new(alloc);
-    let outcome = run_tune(alloc, &task, &Nobody, opened(files), &mut text);
+    let outcome = run_tune(&OneThread, alloc, &task, &Nobody, opened(files), &mut text);
     ended(outcome, text)
 }
 

@@ -357,18 +357,19 @@ fn wishes_task<'a>(alloc: Global, words: &ArgMatches<'a>) -> Result<WishesTask<'
     })
 }
 
-/// What the words after `tune` ask for: it works in one thread, however many it may.
+/// What the words after `tune` ask for.
 fn tune_task<'a>(alloc: Global, words: &ArgMatches<'a>) -> Result<TuneTask<'a>, Unasked> {
     let Some(rule) = NamedRule::of_name(word(words, "rule")?) else {
         return Err(Unasked::Wrong(LOST));
     };
-    let _ = asked_threads(words)?;
+    let threads = asked_threads(words)?;
     Ok(TuneTask {
         rule,
         settings: settings(words)?,
         apt: word(words, "APT")?,
         stms: asked_stems(alloc, words)?,
         targets: words.get_str("targets"),
+        threads,
     })
 }
 

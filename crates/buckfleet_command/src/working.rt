@@ -101,7 +101,7 @@ pub fn serve_work<
         Work::Trial(task) => serve_trial(rt, alloc, task, onlooker, files, output),
         Work::Owned(task) => serve_owned(rt, alloc, task, onlooker, files, output),
         Work::Wishes(task) => serve_wishes(rt, alloc, task, onlooker, files, output),
-        Work::Tune(task) => serve_tune(alloc, task, onlooker, files, output),
+        Work::Tune(task) => serve_tune(rt, alloc, task, onlooker, files, output),
         Work::Appraise(task) => serve_appraise(rt, alloc, task, onlooker, files, output),
         Work::Compare(task) => Ok(serve_compare(rt, alloc, task, onlooker, files, output)?),
     }

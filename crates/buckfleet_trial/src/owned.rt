@@ -35,7 +35,9 @@ use buck_rule::NamedRule;
 use buck_stem::Stem;
 use buck_value::Sheet;
 use buckfleet_engine::Input;
-use buckfleet_engine_files::{EngineFault, Nobody, Onlooker, Open, number_of_threads, write_text};
+use buckfleet_engine_files::{
+    EngineFault, Nobody, Onlooker, Open, SeveralThreads, number_of_threads, write_text,
+};
 use buckfleet_proceeds::appraise;
 use buckfleet_terms_files::{TermsFault, open_last, read_own};
 use buckfleet_trial_draws::order_from;
@@ -453,7 +455,8 @@ pub fn run_owned<T: Threads + Sync, L: Onlooker, R: io::Read + Drop, W: io::Writ
 {
     let OwnedFiles { files, own } = files;
     let (mut reader, file) = own;
-    let input = read_files(alloc, onlooker, files)?;
+    let workers = SeveralThreads::of(rt, task.threads, onlooker);
+    let input = read_files(&workers, alloc, files)?;
     let owner = read_own(alloc, &mut reader, file, &input.instruction)?;
     of_run(write_owned(rt, alloc, task, &input, &owner, out))
 }

@@ -13,7 +13,7 @@ ghost use Rattle.buckfleet_trial.specs.inner.Running.{in_terms};
 use buck_book_postings::MOST_POSTINGS;
 use buck_stem::Stem;
 use buckfleet_engine::{Input, read_input};
-use buckfleet_engine_files::{EngineFault, OneThread, Onlooker, Open, open_inputs};
+use buckfleet_engine_files::{EngineFault, Open, Workers, open_inputs};
 use buckfleet_terms_files::{TermsFault, open_more, read_wanted};
 use std::alloc::Global;
 use std::io;
@@ -69,7 +69,13 @@ fn check_room(lists: &[Vec<Arc<Stem>>]) -> Result<(), EngineFault>
 }
 
 /// The instruction and the stems that the files have, if a history has room for these.
-fn read_stems<R: io::Read>(alloc: Global, apt: &mut R, stms: &mut [R]) -> Result<Input, EngineFault>
+fn read_stems<T: Workers, R: io::Read>(
+    workers: &T,
+    alloc: Global,
+    apt: &mut R,
+    stms: &mut [R],
+) -> Result<Input, EngineFault>
+    requires share { T.can_share }
     ensures seats { AreNoSeats (length stms.old) → IsErrAnd result (λ fault. fault ≡ Seats) }
     ensures few { IfOk result (λ input. length input.lists.items ≤ 64) }
     ensures room { IfOk result (λ input. stems_in_all input.lists.items ≤ MOST_POSTINGS) }
@@ -78,7 +84,7 @@ fn read_stems<R: io::Read>(alloc: Global, apt: &mut R, stms: &mut [R]) -> Result
     ensures refused { IfErr result (IsFleetFault (R.remaining apt.old) (map R.remaining stms.old)) }
     ensures full { IfErr result (λ fault. fault ≡ Full → HaveTooMany (map R.remaining stms.old)) }
 {
-    let input = read_input(&OneThread, alloc, apt, stms)?;
+    let input = read_input(workers, alloc, apt, stms)?;
     check_room(input.lists.as_slice())?;
     Ok(input)
 }
@@ -110,12 +116,13 @@ fn read_moved<R: io::Read>(
 /// What the files of a trial say: the instruction, with the targets of the file of targets in the place of its own, if
 /// there is one, and the stems. The instruction file is read first, then the stem files, and then the file of targets;
 /// each is refused, if it must be, before the next is read. `Full` if there are more stems than 1,000,000, before the
-/// file of targets is read. An onlooker is shown the instruction.
-pub(crate) fn read_files<L: Onlooker, R: io::Read + Drop>(
+/// file of targets is read. The onlooker of the workers is shown the instruction.
+pub(crate) fn read_files<T: Workers, R: io::Read + Drop>(
+    workers: &T,
     alloc: Global,
-    onlooker: &L,
     files: Opened<R>,
 ) -> Result<Input, TermsFault>
+    requires share { T.can_share }
     ensures few { IfOk result (λ input. length input.lists.items ≤ 64) }
     ensures room { IfOk result (λ input. stems_in_all input.lists.items ≤ MOST_POSTINGS) }
     ensures says { IfOk result (λ input. SaysInput (R.remaining files.apt) (map R.remaining files.stms.items)
@@ -128,8 +135,7 @@ pub(crate) fn read_files<L: Onlooker, R: io::Read + Drop>(
         mut stms,
         targets,
     } = files;
-    let input = of_run(read_stems(alloc, &mut apt, stms.as_mut_slice()))?;
-    onlooker.read::<Stem>(&input.instruction, &[]);
+    let input = of_run(read_stems(workers, alloc, &mut apt, stms.as_mut_slice()))?;
     match targets {
         None => Ok(input),
         Some((mut reader, file)) => read_moved(alloc, &mut reader, file, input),

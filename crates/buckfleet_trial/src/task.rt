@@ -62,4 +62,6 @@ pub struct TuneTask<'a> {
     pub stms: Vec<&'a str>,
     /// The name of the file of targets, if there is one.
     pub targets: Option<&'a str>,
+    /// How many threads may read at once; if nothing is said, as many as the machine has.
+    pub threads: Option<u8>,
 }

@@ -17,7 +17,9 @@ use crate::table::{put_first, put_line};
 use crate::task::TrialTask;
 use buck_record::Memory;
 use buckfleet_engine::Input;
-use buckfleet_engine_files::{EngineFault, number_of_threads, write_text};
+use buckfleet_engine_files::{
+    EngineFault, OneThread, SeveralThreads, number_of_threads, write_text,
+};
 use buckfleet_terms_files::TermsFault;
 use buckfleet_trial_draws::{Draws, order_from, starts_of};
 use buckfleet_trial_sweep::{Combination, run_line};
@@ -386,7 +388,7 @@ pub fn run_trial<L: RunOnlooker, R: io::Read + Drop, W: io::Write>(
         (map R.remaining files.stms.items) (held_with R.remaining files.targets)
         (W.contents out.old) (W.contents out.new) result }
 {
-    let input = read_files(alloc, onlooker, files)?;
+    let input = read_files(&OneThread, alloc, files)?;
     of_run(write_one_by_one(alloc, task, onlooker, &input, out))
 }
 
@@ -411,6 +413,7 @@ pub fn run_trial_in_parts<
         (map R.remaining files.stms.items) (held_with R.remaining files.targets)
         (W.contents out.old) (W.contents out.new) result }
 {
-    let input = read_files(alloc, onlooker, files)?;
+    let workers = SeveralThreads::of(rt, task.threads, onlooker);
+    let input = read_files(&workers, alloc, files)?;
     of_run(write_trial(rt, alloc, task, onlooker, &input, out))
 }

@@ -22,11 +22,12 @@ use buck_record::Memory;
 use buck_stem::Stem;
 use buck_value::Sheet;
 use buckfleet_engine::Input;
-use buckfleet_engine_files::{EngineFault, Onlooker, Open, write_text};
+use buckfleet_engine_files::{EngineFault, Onlooker, Open, SeveralThreads, Workers, write_text};
 use buckfleet_terms_files::TermsFault;
 use std::alloc::Global;
 use std::io;
 use std::sync::Arc;
+use std::thread::Threads;
 
 /// The most that a base price may be.
 const MOST_PRICE: u128 = 10_000_000;
@@ -148,13 +149,15 @@ fn write_tuned<L: Onlooker, W: io::Write>(
 /// force over all stems, rounded to the nearest, a half upwards, and at least 1 and at most 10,000,000. A class that
 /// isn't bought stays so, and without stems all prices stay. The targets are those of the file of targets, if there
 /// is one; the settings are the run's alone. Nothing is written before the whole text is there.
-pub fn run_tune<L: Onlooker, R: io::Read + Drop, W: io::Write>(
+pub fn run_tune<T: Workers, L: Onlooker, R: io::Read + Drop, W: io::Write>(
+    workers: &T,
     alloc: Global,
     task: &TuneTask<'_>,
     onlooker: &L,
     files: Opened<R>,
     out: &mut W,
 ) -> Result<(), TermsFault>
+    requires share { T.can_share }
     // What is written is the text of the instruction that the files have, with prices that are these means over the
     // history of the run; reading it gives that instruction. A fault is that of the first file that has one, or comes
     // after all of them, and nothing is written; a write fault leaves a prefix of the text.
@@ -162,13 +165,14 @@ pub fn run_tune<L: Onlooker, R: io::Read + Drop, W: io::Write>(
         (map R.remaining files.stms.items) (held_with R.remaining files.targets))
         (W.contents out.old) (W.contents out.new) result }
 {
-    let input = read_files(alloc, onlooker, files)?;
+    let input = read_files(workers, alloc, files)?;
     of_run(write_tuned(alloc, task, onlooker, &input, out))
 }
 
 /// Tunes an instruction over the files of a task's names. The files are opened as by
 /// [`serve_trial`](crate::serve_trial); else the faults are those of [`run_tune`].
-pub fn serve_tune<L: Onlooker, O: Open, W: io::Write>(
+pub fn serve_tune<T: Threads + Sync, L: Onlooker, O: Open, W: io::Write>(
+    rt: &T,
     alloc: Global,
     task: &TuneTask<'_>,
     onlooker: &L,
@@ -180,5 +184,6 @@ pub fn serve_tune<L: Onlooker, O: Open, W: io::Write>(
 {
     let stms = task.stms.as_slice();
     let files = open_files(alloc, opener, task.apt, stms, task.targets)?;
-    run_tune(alloc, task, onlooker, files, out)
+    let workers = SeveralThreads::of(rt, task.threads, onlooker);
+    run_tune(&workers, alloc, task, onlooker, files, out)
 }

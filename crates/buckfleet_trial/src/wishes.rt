@@ -28,7 +28,9 @@ use buck_record::Memory;
 use buck_rule::NamedRule;
 use buck_stem::Stem;
 use buckfleet_engine::Input;
-use buckfleet_engine_files::{EngineFault, number_of_threads, write_text};
+use buckfleet_engine_files::{
+    EngineFault, OneThread, SeveralThreads, number_of_threads, write_text,
+};
 use buckfleet_terms_files::TermsFault;
 use std::alloc::Global;
 use std::cmp::Ordering;
@@ -379,7 +381,7 @@ pub fn run_wishes<L: RunOnlooker, R: io::Read + Drop, W: io::Write>(
         (map R.remaining files.stms.items) (held_with R.remaining files.targets))
         (W.contents out.old) (W.contents out.new) result }
 {
-    let input = read_files(alloc, onlooker, files)?;
+    let input = read_files(&OneThread, alloc, files)?;
     of_run(write_one_by_one(alloc, task, onlooker, input, out))
 }
 
@@ -403,6 +405,7 @@ pub fn run_wishes_in_parts<
         (map R.remaining files.stms.items) (held_with R.remaining files.targets))
         (W.contents out.old) (W.contents out.new) result }
 {
-    let input = read_files(alloc, onlooker, files)?;
+    let workers = SeveralThreads::of(rt, task.threads, onlooker);
+    let input = read_files(&workers, alloc, files)?;
     of_run(write_wishes(rt, alloc, task, onlooker, input, out))
 }

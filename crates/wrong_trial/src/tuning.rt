@@ -11,7 +11,7 @@ ghost use Rattle.buckfleet_trial.specs.Tune.{tuned_price};
 
 use buck_apt::read_apt;
 use buck_book_postings::Parts;
-use buckfleet_engine_files::Nobody;
+use buckfleet_engine_files::{Nobody, OneThread};
 use buckfleet_trial::{Opened, TuneTask, run_tune, tuned_prices};
 use std::alloc::Global;
 
@@ -77,7 +77,7 @@ pub fn limit_of_the_run_printed<'x>(
         return;
     };
     let mut out = Vec::new(alloc);
-    if let Ok(()) = run_tune(alloc, task, &Nobody, files, &mut out) {
+    if let Ok(()) = run_tune(&OneThread, alloc, task, &Nobody, files, &mut out) {
         if let Ok(right) = read_apt(alloc, out.as_slice()) {
             let right = right.limit();
             let wrong = 50;
@@ -103,7 +103,7 @@ pub fn targets_of_the_instruction_printed<'x>(
     };
     files.targets = Some((targets, 2));
     let mut out = Vec::new(alloc);
-    if let Ok(()) = run_tune(alloc, task, &Nobody, files, &mut out) {
+    if let Ok(()) = run_tune(&OneThread, alloc, task, &Nobody, files, &mut out) {
         if let Ok(right) = read_apt(alloc, out.as_slice()) {
             if let Some(right) = right.assortments().first() {
                 if let Some(right) = right.targets().first() {
