@@ -62,7 +62,8 @@ pieces F (a ∷ more) ns number each =
     let long = number ∙ sum_by-cons classes_of a more in (
       each 0 a (omega arith) refl (length-take-le (classes_of a) ns (omega (arith, long))),
       pieces F more (drop (classes_of a) ns) (length-drop (classes_of a) ns ∙ omega (arith, long))
-          (λ at b lt is. subst (λ left. length (take (classes_of b) left) ≡ classes_of b → F (take (classes_of b) left) b)
+          (λ at b lt is. subst
+          (λ left. length (take (classes_of b) left) ≡ classes_of b → F (take (classes_of b) left) b)
           (sym (further at)) (each (suc at) b (omega arith) is)),
     )
   where

@@ -179,7 +179,8 @@ each_passes f g [] h = refl
 each_passes f g (a ∷ rest) h = rw (h.0, each_passes f g rest h.1) refl
 
 pub each_valid : {X : Type 0} (f : X → Result (Unit {0}) AptFault) (g : AssortmentParts → X) (i : InstructionParts)
-    → IsInstruction i → ((a : AssortmentParts) → IsAssortment a → f (g a) ≡ Ok tt) → each f (map g i.assortments) ≡ Ok tt
+    → IsInstruction i → ((a : AssortmentParts) → IsAssortment a → f (g a) ≡ Ok tt)
+    → each f (map g i.assortments) ≡ Ok tt
 each_valid f g i h passes =
     each_passes f g i.assortments (recursion_from_All _ i.assortments (λ k d lt. passes _ (h.assortments_valid k d lt)))
 

@@ -141,26 +141,36 @@ draft_ready d named in_ranges ordered counted_all few =
       };
     }
 
--- the numbers of the head, which passed
-record HeadReady (s : FileDraft) : Type 0 where
-  pub «module» : length s.«module» ≡ 1
-  pub module_range : IsWithin MODULE.low MODULE.high (slice_index s.«module» 0)
-  pub period : length s.period ≡ 1
-  pub period_range : IsWithin PERIOD.low PERIOD.high (slice_index s.period 0)
-  pub limit : length s.limit ≡ 1
-  pub limit_range : IsWithin LIMIT.low LIMIT.high (slice_index s.limit 0)
-  pub count_range : IsWithin COUNT.low COUNT.high (length s.drafts)
-  pub ranges : All (λ d. draft_range d ≡ Ok tt) s.drafts
-  pub counts : All (λ d. draft_count d ≡ Ok tt) s.drafts
+lengths_ok : (step : ℕ) (lengths : List ℕ) → none_found (first_off_module step lengths) Module ≡ Ok tt
+    → All (λ l. l % step ≡ 0) lengths
+lengths_ok step lengths h =
+    λ k d lt. eqb-true _ _
+    (not_false _ (find_none (λ l. not (l % step == 0)) lengths (none_found_ok _ Module h) k d lt))
 
-head_ready : (s : FileDraft) → in_range s ≡ Ok tt → in_number s ≡ Ok tt → HeadReady s
-unfolding in_range in_number
-head_ready s in_ranges counted_all =
-    let r1 = ranged Range MODULE s.«module» _ in_ranges in
+-- what the ninth line requires
+pub module_single : (s : FileDraft) → in_number s ≡ Ok tt → length s.«module» ≡ 1
+unfolding in_number
+module_single s counted_all = one_number s.«module» (counted Count MODULE 1 s.«module» _ counted_all).0
+
+pub module_above_zero : (s : FileDraft) → in_range s ≡ Ok tt → in_number s ≡ Ok tt → 0 < slice_index s.«module» 0
+unfolding in_range
+module_above_zero s in_ranges counted_all =
+    let range = ranged Range MODULE s.«module» _ in_ranges in
+    omega (arith, one_of MODULE s.«module» range.0 (module_single s counted_all))
+
+-- a file that passed the last five lines
+file_ready : (s : FileDraft) → AreNamed s → within_limits s ≡ Ok tt → IsReadyFile s
+unfolding within_limits in_range in_order in_number on_module in_targets
+file_ready s named passes =
+    let in_ranges = then_ok (in_range s) _ passes in
+    let ordered = then_ok (in_order s) _ in_ranges.1 in
+    let counted_all = then_ok (in_number s) _ ordered.1 in
+    let stepped = then_ok (on_module s) _ counted_all.1 in
+    let r1 = ranged Range MODULE s.«module» _ in_ranges.0 in
     let r2 = ranged Range PERIOD s.period _ r1.1 in
     let r3 = ranged Range LIMIT s.limit _ r2.1 in
     let r4 = ranged Range COUNT s.count _ r3.1 in
-    let c1 = counted Count MODULE 1 s.«module» _ counted_all in
+    let c1 = counted Count MODULE 1 s.«module» _ counted_all.0 in
     let c2 = counted Count PERIOD 1 s.period _ c1.1 in
     let c3 = counted Count LIMIT 1 s.limit _ c2.1 in
     let c4 = passed (is_number_of s.drafts s.count) _ _ c3.1 in
@@ -170,58 +180,26 @@ head_ready s in_ranges counted_all =
     let step = one_number s.«module» c1.0 in
     let period = one_number s.period c2.0 in
     let limit = one_number s.limit c3.0 in
-    record {
-      «module» = step;
-      module_range = one_of MODULE s.«module» r1.0 step;
-      period = period;
-      period_range = one_of PERIOD s.period r2.0 period;
-      limit = limit;
-      limit_range = one_of LIMIT s.limit r3.0 limit;
-      count_range = rw same at range;
-      ranges = each_ok draft_range s.drafts r4.1;
-      counts = each_ok draft_count s.drafts c4.1;
-    }
-
-lengths_ok : (step : ℕ) (lengths : List ℕ) → none_found (first_off_module step lengths) Module ≡ Ok tt
-    → All (λ l. l % step ≡ 0) lengths
-lengths_ok step lengths h =
-    λ k d lt. eqb-true _ _
-    (not_false _ (find_none (λ l. not (l % step == 0)) lengths (none_found_ok _ Module h) k d lt))
-
--- what the ninth line requires
-pub module_single : (s : FileDraft) → in_range s ≡ Ok tt → in_number s ≡ Ok tt → length s.«module» ≡ 1
-module_single s ranged counted = (head_ready s ranged counted).«module»
-
-pub module_above_zero : (s : FileDraft) → in_range s ≡ Ok tt → in_number s ≡ Ok tt → 0 < slice_index s.«module» 0
-module_above_zero s ranged counted = let head = head_ready s ranged counted in omega (arith, head.module_range)
-
--- a file that passed the last five lines
-file_ready : (s : FileDraft) → AreNamed s → within_limits s ≡ Ok tt → IsReadyFile s
-unfolding within_limits in_order on_module in_targets
-file_ready s named passes =
-    let ranged = then_ok (in_range s) _ passes in
-    let ordered = then_ok (in_order s) _ ranged.1 in
-    let counted = then_ok (in_number s) _ ordered.1 in
-    let stepped = then_ok (on_module s) _ counted.1 in
     let names = All-from_recursion IsNamed s.drafts named in
-    let head = head_ready s ranged.0 counted.0 in
+    let ranges = each_ok draft_range s.drafts r4.1 in
     let orders = each_ok draft_order s.drafts ordered.0 in
+    let counts = each_ok draft_count s.drafts c4.1 in
     let few =
     position_none (λ d. nat_lt MOST_TARGETS_TOGETHER (sum d.targets)) s.drafts
     (none_found_ok _ Targets stepped.1) in
     let ready : All IsReadyDraft s.drafts =
-    λ k d lt. draft_ready _ (names k d lt) (head.ranges k d lt) (orders k d lt) (head.counts k d lt)
+    λ k d lt. draft_ready _ (names k d lt) (ranges k d lt) (orders k d lt) (counts k d lt)
     (ltb-false _ _ (few k d lt)) in
     record {
-      «module» = head.«module»;
-      period = head.period;
-      limit = head.limit;
+      «module» = step;
+      period = period;
+      limit = limit;
       drafts = ready;
       valid = record {
-        module_range = head.module_range;
-        period_range = head.period_range;
-        limit_range = head.limit_range.1;
-        assortments_number = rw length-map head.count_range;
+        module_range = one_of MODULE s.«module» r1.0 step;
+        period_range = one_of PERIOD s.period r2.0 period;
+        limit_range = (one_of LIMIT s.limit r3.0 limit).1;
+        assortments_number = rw length-map (rw same at range);
         assortments_valid = All-map IsAssortment assortment_of s.drafts (λ k d lt. (ready k d lt).valid);
         on_module =
             All-map (λ a. IsOnModule (slice_index s.«module» 0) a) assortment_of s.drafts

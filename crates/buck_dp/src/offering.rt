@@ -77,7 +77,7 @@ pub(crate) fn settle(values: &mut [Bid], choices: &mut [u32], past: usize)
     ensures { IsSearch p values.new choices.new (past - 1) (past - 1) }
 {
     let point = past - 1;
-    let value = values[point].max(values[past]);
+    let value = values[point].max(values[point + 1]);
     choices[point] = value.rank();
     values[point] = value.without_rank();
 }

@@ -37,7 +37,6 @@ impl Model for Planner {
 }
 
 /// The first of the best cuttings of a stem, and its worth.
-#[tactic(auto, using(crate::proofs::Lists::cut_bounded))]
 fn cut(alloc: Global, own: &mut Own, stem: &Stem) -> Result<(Cutting, u64), Memory>
     ensures same { own.new.search.market.sheet ≡ own.old.search.market.sheet }
     ensures first { IfOk result (λ found. IsFirstBest own.old.search.market.sheet stem.now found.0.logs.items) }
@@ -51,8 +50,12 @@ fn cut(alloc: Global, own: &mut Own, stem: &Stem) -> Result<(Cutting, u64), Memo
     let sheet = search.market.sheet();
     let fit = fit_of(sheet, stem);
     // In lists that are kept from stem to stem: new ones would be up to a fifteenth of a plan's cost.
-    let profile = &Profile::make_in(&mut own.lists, stem, sheet.instruction().module())?;
-    let site = Site { stem, profile, fit };
+    let profile = Profile::make_in(&mut own.lists, stem, sheet.instruction().module())?;
+    let site = Site {
+        stem,
+        profile: &profile,
+        fit,
+    };
     search.search(alloc, site)?;
     let (logs, worth) = follow(alloc, site, search)?;
     Ok((Cutting { logs }, worth))

@@ -153,7 +153,7 @@ impl Search {
     }
 
     /// Settles the tops before `past` down to `last`, and offers the logs with these part by part.
-    #[tactic(auto, using(crate::proofs::SiteLemmas::at_top, crate::proofs::SiteLemmas::point_reached))]
+    #[tactic(auto, using(crate::proofs::SiteLemmas::point_reached))]
     fn settle_parts(
         &mut self,
         alloc: Global,

@@ -1,10 +1,6 @@
+pub mod Diameters
 pub mod Zones
-pub mod Lows
-pub mod Masks
 pub mod PassLemmas
 pub mod RunLemmas
 pub mod Tables
-pub mod Diameters
-pub mod Along
 pub mod PlainLemmas
-pub mod JoinLemmas

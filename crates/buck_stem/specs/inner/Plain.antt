@@ -1,6 +1,7 @@
 -- Stem files in their plain order: `1 2`, and then for each stem `951 1`, `952 1`, `953 1` and perhaps `954 1`. Items
 -- of no slot of the table may stand anywhere.
-use Rattle.std.specs.Prelude.{◌≡◌, ℕ, List, [], ◌∷◌, ◌++◌, Option, Some, None, Ok}
+use Rattle.std.specs.Prelude.{◌≡◌, ℕ, List, [], ◌∷◌, ◌++◌, map, Option, Some, None, Ok}
+use Rattle.std.specs.List.{flat_map}
 use Rattle.std.specs.Option.{unwrap_or}
 use Rattle.buck_record.specs.Item.{ItemParts}
 use Rattle.buck_record.specs.bytes.Record.{numbers_of}
@@ -37,58 +38,55 @@ pub record Says (d : Draft) : Type 0 where
 abbrev pub items_in : (d : Draft) → Says d → List ItemParts
 items_in d s = group_of s.number s.species s.samples s.zones
 
--- the items begin with those of the stem, which is right, and `rest` follows
-pub record IsPlain (items : List ItemParts) (stem : StemParts) (rest : List ItemParts) : Type 0 where
+-- what a stem says, in texts and in numbers, which are right
+pub record Plain : Type 0 where
   pub draft : Draft
   pub says : Says draft
-  pub group : items ≡ items_in draft says ++ rest
   pub ready : IsReadyDraft draft
-  pub parts : parts_of draft ≡ stem
 
--- the items are those of the stems, one stem after the other
-abbrev pub ArePlain : List ItemParts → List StemParts → Type 0
-ArePlain items [] = items ≡ []
-ArePlain items (stem ∷ stems) = (rest : List ItemParts) × IsPlain items stem rest × ArePlain rest stems
+abbrev pub group_in : Plain → List ItemParts
+group_in p = items_in p.draft p.says
+
+abbrev pub all_drafts : List Plain → List Draft
+all_drafts ps = map (λ (p : Plain). p.draft) ps
+
+-- the items of stems, one stem after the other, and the stems
+abbrev pub all_items : List Plain → List ItemParts
+all_items ps = flat_map group_in ps
+
+abbrev pub all_stems : List Plain → List StemParts
+all_stems ps = map parts_of (all_drafts ps)
 
 -- the text's items of the table
 abbrev pub HasKept : List ℕ → List ItemParts → Type 0
 HasKept text items = HasItemsIn table text items
 
--- the text begins with the item, and `left` has the other items
-abbrev pub LeadsItem : List ℕ → ItemParts → List ℕ → Type 0
-LeadsItem text item left = (items : List ItemParts) → HasKept left items → HasKept text (item ∷ items)
+-- the text begins with the items, and `left` has the others
+abbrev pub LeadsItems : List ℕ → List ItemParts → List ℕ → Type 0
+LeadsItems text first left = (items : List ItemParts) → HasKept left items → HasKept text (first ++ items)
 
 -- the text begins with an item of the slot that says these numbers, and `left` has the other items
 abbrev pub LeadsNumbers : Slot → List ℕ → List ℕ → List ℕ → Type 0
-LeadsNumbers s text ns left = (t : List ℕ) × (numbers_of t ≡ Ok ns) × LeadsItem text (item_in s t) left
+LeadsNumbers s text ns left = (t : List ℕ) × (numbers_of t ≡ Ok ns) × LeadsItems text (item_in s t ∷ []) left
 
 -- the text begins with an item of zones that says these numbers, and `left` has the other items; or there are none, and
 -- `left` has all items
 pub record LeadsZones (text ns left : List ℕ) : Type 0 where
   pub item : Option (List ℕ)
   pub read : numbers_of (unwrap_or item []) ≡ Ok ns
-  pub next : (items : List ItemParts) → HasKept left items → HasKept text (zones_item item ++ items)
+  pub next : LeadsItems text (zones_item item) left
 
 -- the text begins with the items of a stem that say these numbers, and `left` has the others
 abbrev pub LeadsDraft : List ℕ → Draft → List ℕ → Type 0
-LeadsDraft text d left =
-    (s : Says d) × ((items : List ItemParts) → HasKept left items → HasKept text (items_in d s ++ items))
+LeadsDraft text d left = (s : Says d) × LeadsItems text (items_in d s) left
 
--- the text begins with the items of the stem, and `left` has the others
-abbrev pub LeadsStem : List ℕ → StemParts → List ℕ → Type 0
-LeadsStem text stem left =
-    (items : List ItemParts)
-    → HasKept left items → (more : List ItemParts) × HasKept text more × IsPlain more stem items
-
--- the text begins with the items of the stems, and `rest` has the others
+-- the text begins with the items of the stems, and `left` has the others
 abbrev pub LeadsStems : List ℕ → List StemParts → List ℕ → Type 0
-LeadsStems text stems rest =
-    (items : List ItemParts) (others : List StemParts) → HasKept rest items → ArePlain items others
-    → (all : List ItemParts) × HasKept text all × ArePlain all (stems ++ others)
+LeadsStems text stems left = (ps : List Plain) × (all_stems ps ≡ stems) × LeadsItems text (all_items ps) left
 
 -- the items of the text are those of the stems
 abbrev pub HasStems : List ℕ → List StemParts → Type 0
-HasStems text stems = (all : List ItemParts) × HasKept text all × ArePlain all stems
+HasStems text stems = (ps : List Plain) × (all_stems ps ≡ stems) × HasKept text (all_items ps)
 
 -- whatever stems the text has are those of the file
 abbrev pub IsBodyOf : List ℕ → List ℕ → Type 0

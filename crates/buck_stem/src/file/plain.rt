@@ -3,11 +3,11 @@
 //! read into lists that are kept from stem to stem.
 //!
 //! If a text isn't read, the fault says only whether an allocation failed.
-ghost use Rattle.std.specs.Prelude.{◌≡◌, [], IfOk, IfSome, Ok, true};
+ghost use Rattle.std.specs.Prelude.{◌≡◌, [], IfOk, Ok, true};
 ghost use Rattle.buck_record.specs.pass.Cursor.{item_in};
 ghost use Rattle.buck_record.specs.checking.Table.{is_in};
 ghost use Rattle.buck_stem.specs.file.Stm.{table, stm_of};
-ghost use Rattle.buck_stem.specs.inner.Plain.{LeadsNumbers, LeadsZones, LeadsDraft, LeadsStem, HasStems, IsBodyOf};
+ghost use Rattle.buck_stem.specs.inner.Plain.{LeadsNumbers, LeadsZones, LeadsDraft, LeadsStems, HasStems, IsBodyOf};
 
 use crate::file::draft::Draft;
 use crate::file::fault::StmFault;
@@ -48,7 +48,8 @@ fn next_zones<'a>(room: &mut Vec<u32>, text: &'a [u8]) -> Result<&'a [u8], StmFa
     Ok(left)
 }
 
-/// What the items of the stem say that a text begins with, in the lists of the stem before; and what is left after them.
+/// What the items of the stem say that a text begins with, in the lists of the stem before; and what is left after
+/// them.
 fn next_draft<'a>(draft: Draft, text: &'a [u8]) -> Result<(Draft, &'a [u8]), StmFault>
     ensures { IfOk result (λ w. LeadsDraft text.now w.0 w.1.now) }
 {
@@ -75,7 +76,7 @@ fn next_stem<'a>(
     draft: Draft,
     text: &'a [u8],
 ) -> Result<(Stem, Draft, &'a [u8]), StmFault>
-    ensures { IfOk result (λ w. LeadsStem text.now w.0 w.2.now) }
+    ensures { IfOk result (λ w. LeadsStems text.now (w.0 ∷ []) w.2.now) }
 {
     let (read, left) = next_draft(draft, text)?;
     ready(&read)?;

@@ -2,9 +2,10 @@
 ghost use Rattle.std.specs.Prelude.{◌≡◌, ℕ, ◌+◌, ◌-◌, ◌*◌, ◌<◌, ◌≤◌, IfOk, OnOk, length, slice_index};
 ghost use Rattle.buck_stem.specs.Stem.{IsStem, diameter_at};
 ghost use Rattle.buck_stem.specs.points.Profile.{profile_of, points_of, IsMaskBetween};
-ghost use Rattle.buck_stem.specs.inner.ProfileTables.{AreDiameters, AreTables};
+ghost use Rattle.buck_stem.specs.inner.ProfileTables.{AreTables};
 
 use crate::grades::Grades;
+use crate::points::diameters::put_diameters;
 use crate::points::runs::{Runs, put_runs};
 use crate::stem::Stem;
 use buck_record::Memory;
@@ -53,19 +54,6 @@ impl ProfileLists {
             runs: Runs::new(alloc),
         }
     }
-}
-
-/// Puts the diameter at each point in the place of others.
-fn put_diameters(diameters: &mut Vec<u32>, stem: &Stem, step: u32) -> Result<(), AllocError>
-    requires { (10 ≤ step) × (step ≤ 1000) }
-    ensures number { OnOk result (length diameters.new.items ≡ points_of (profile_of stem.now step)) }
-    ensures right { OnOk result (AreDiameters (profile_of stem.now step) diameters.new.items) }
-    ensures valid { IsStem stem.now }
-{
-    let points = stem.length() / step + 1;
-    diameters.clear();
-    diameters.reserve(points as usize)?;
-    stem.put_diameters(step, diameters)
 }
 
 /// Puts the tables of a stem in the place of others.

@@ -1,5 +1,6 @@
 //! The steps of a stem in runs of the same grades.
 ghost use Rattle.std.specs.Prelude.{◌≡◌, ℕ, ◌+◌, ◌<◌, ◌≤◌, OnOk, List, length};
+ghost use Rattle.buck_stem.specs.Stem.{IsRisingFrom, grade_at};
 ghost use Rattle.buck_stem.specs.points.Profile.{profile_of, points_of};
 ghost use Rattle.buck_stem.specs.inner.Runs.{HoldRuns, ShowMask};
 
@@ -16,6 +17,20 @@ pub(crate) struct Runs {
     pub masks: Vec<Grades>,
     /// The run of each step.
     pub run_of: Vec<u16>,
+}
+
+/// A place up to which the grade stays what it is at `x`: the first start of a zone past it, if there is one.
+fn grade_end(zones: &[(u32, u8)], x: u32) -> u32
+    requires { IsRisingFrom 0 zones.now }
+    ensures { (y : ℕ) → x ≤ y → y < result → grade_at zones.now y ≡ grade_at zones.now x }
+{
+    let mut end = u32::MAX;
+    for zone in zones {
+        if x < zone.0 && zone.0 < end {
+            end = zone.0;
+        }
+    }
+    end
 }
 
 /// Adds the run of the steps that are not in one yet, up to `end`.
@@ -47,7 +62,7 @@ fn push_next(runs: &mut Runs, stem: &Stem, step: u32) -> Result<(), AllocError>
 {
     let count = stem.length() / step;
     let at = runs.run_of.len() as u32;
-    let end = (stem.grade_end(at * step) / step).min(count);
+    let end = (grade_end(stem.zones(), at * step) / step).min(count);
     if at < end {
         let mask = Grades::none().with(stem.grade_at(at * step));
         return push_run(runs, mask, end as usize);

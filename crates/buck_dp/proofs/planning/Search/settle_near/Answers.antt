@@ -1,10 +1,11 @@
 use Rattle.buck_dp.proofs.Words.{◌≡◌, ℕ, ◌-◌, ◌∙◌, slice_get, Some, Cell, arith, rules, with_items_is, IsSearch, IsPlaced, AreOffered, AllFit}
 use Rattle.buck_dp.proofs.OfferLemmas.{closed}
 use Rattle.buck_dp.proofs.SiteLemmas.{at_top, near_open, row_under}
+use Rattle.buck_dp.proofs.planning.Search.settle_near.Goals.{After-settle}
 use Rattle.buck_dp.proofs.planning.Search.settle_near.Goals as goal
 
 -- the cells of the row at the diameter of the top can be offered
-opened : (g : _) (c : goal.After-settle g)
+opened : (g : _) (c : After-settle g)
     → AreOffered g.p c.settle.new.choices (c.loop-top-2.top - 1) c.args.near.first (c.loop-top-2.top - 1)
     c.cells-cells.result.now 0 c.settle.new.values
     × AllFit g.p (c.loop-top-2.top - 1) c.cells-cells.result.now

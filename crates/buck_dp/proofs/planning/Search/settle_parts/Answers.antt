@@ -1,6 +1,6 @@
-use Rattle.buck_dp.proofs.Words.{◌-◌, ◌+◌, get_or, drop, drop-cons, drop_all, add-one, arith, rules, AreParts, IsPartTo, Part, points_of}
+use Rattle.buck_dp.proofs.Words.{◌-◌, ◌+◌, get_or, drop, drop-cons, drop_all, add-one, arith, rules, with_items_is, AreParts, IsPartTo, Part, points_of}
 use Rattle.buck_dp.proofs.OfferLemmas.{closed, searched_to}
-use Rattle.buck_dp.proofs.SiteLemmas.{part_open, none_near, point_reached, row_under}
+use Rattle.buck_dp.proofs.SiteLemmas.{at_top, part_open, none_near, point_reached, row_under}
 use Rattle.buck_dp.proofs.planning.Search.settle_parts.Goals.{In-loop-part, then-top-part+in_ok-row, else-top-part}
 use Rattle.buck_dp.proofs.planning.Search.settle_parts.Goals as goal
 
@@ -56,3 +56,6 @@ loop-top-preserved g c =
           (rw (drop_all l.part-index c.as_slice-parts.result.now c.loop-part-test.false) at l.invariant.left);
       market = l.invariant.market;
     }
+
+pub returns-clause-plan : goal.returns-clause-plan
+returns-clause-plan g c = search (rules, at_top, with_items_is)

@@ -1,6 +1,6 @@
 use Rattle.std.proofs.Common.{rules}
 use Rattle.buck_stem.specs.inner.Plain.{HasStems}
-use Rattle.buck_stem.proofs.JoinLemmas.{stems_join}
+use Rattle.buck_stem.proofs.PlainLemmas.{stems_join}
 use Rattle.buck_stem.proofs.file.parallel.+fn-stems_in_parts-join+arg2+fn-stems_in_parts-join+arg3+stems_in_parts.Goals as goal
 
 pub returns : goal.returns

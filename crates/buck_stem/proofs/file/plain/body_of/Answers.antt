@@ -1,6 +1,6 @@
 use Rattle.std.proofs.Common.{◌≡◌, true, codes, ap, sym, ◌∙◌}
 use Rattle.std.specs.Str.{bytes_eq}
-use Rattle.buck_stem.proofs.JoinLemmas.{read_stems, not_false}
+use Rattle.buck_stem.proofs.PlainLemmas.{read_stems, not_false}
 use Rattle.buck_stem.proofs.file.plain.body_of.Goals as goal
 
 pub returns : goal.returns

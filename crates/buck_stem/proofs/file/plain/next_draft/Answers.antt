@@ -1,4 +1,4 @@
-use Rattle.buck_stem.proofs.JoinLemmas.{draft_leads}
+use Rattle.buck_stem.proofs.PlainLemmas.{draft_leads}
 use Rattle.buck_stem.proofs.file.plain.next_draft.Goals as goal
 
 pub returns : goal.returns

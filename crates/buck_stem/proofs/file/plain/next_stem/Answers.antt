@@ -1,4 +1,4 @@
-use Rattle.buck_stem.proofs.JoinLemmas.{stem_leads}
+use Rattle.buck_stem.proofs.PlainLemmas.{stem_leads}
 use Rattle.buck_stem.proofs.file.plain.next_stem.Goals as goal
 
 pub returns : goal.returns

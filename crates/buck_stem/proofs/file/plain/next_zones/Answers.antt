@@ -1,5 +1,5 @@
 use Rattle.std.proofs.Common.{Some, rules}
-use Rattle.buck_stem.proofs.JoinLemmas.{no_zones}
+use Rattle.buck_stem.proofs.PlainLemmas.{no_zones}
 use Rattle.buck_stem.proofs.file.plain.next_zones.Goals as goal
 
 pub returns-in_default : goal.returns-in_default

@@ -1,5 +1,5 @@
-use Rattle.std.proofs.Common.{[], refl}
-use Rattle.buck_stem.proofs.JoinLemmas.{stems_start, stems_go_on, stems_end}
+use Rattle.std.proofs.Common.{[], ◌∷◌, refl}
+use Rattle.buck_stem.proofs.PlainLemmas.{stems_start, stems_go_on, stems_end}
 use Rattle.buck_stem.proofs.file.plain.stems_of.Goals as goal
 
 pub loop-init : goal.loop-init
@@ -8,7 +8,8 @@ loop-init c = rw c.new-stems.ensures.items (stems_start c.args.body.now)
 pub loop-preserved : goal.loop-preserved
 loop-preserved c =
     rw c.in_ok-push-in-Ok.ensures.items
-    (stems_go_on c.args.body.now c.loop.rest.now c.in-Ok.left.now c.loop.stems.items _ c.loop.invariant c.in-Ok.ensures)
+    (stems_go_on c.args.body.now c.loop.rest.now c.in-Ok.left.now c.loop.stems.items (c.in-Ok.stem ∷ [])
+    c.loop.invariant c.in-Ok.ensures)
 
 pub returns-in-Err : goal.returns-in-Err
 returns-in-Err c =

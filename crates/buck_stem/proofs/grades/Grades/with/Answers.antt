@@ -1,4 +1,4 @@
-use Rattle.buck_stem.proofs.Masks.{set_grade}
+use Rattle.buck_stem.proofs.Zones.{set_grade}
 use Rattle.buck_stem.proofs.grades.Grades.with.Goals as goal
 
 pub returns : goal.returns

@@ -21,7 +21,8 @@ returns-then-at-end-clause-right c =
     on_ok_weaker c.push_run.result (λ right. right c.args.stem.now.zones c.args.step c.requires.right
     (λ k le lt. quiet_mask c.args.stem.now.zones c.args.step c.len-at.result c.min-end.result c.grade_end.result
     c.with-mask.result k
-    (omega arith) c.grade_end.ensures within bits (omega (arith, c.len-at.ensures)) lt)) c.push_run.ensures.right
+    (omega arith) (rw c.zones.ensures at c.grade_end.ensures) within bits
+    (omega (arith, c.len-at.ensures)) lt)) c.push_run.ensures.right
 
 pub returns-clause-right : goal.returns-clause-right
 returns-clause-right c =

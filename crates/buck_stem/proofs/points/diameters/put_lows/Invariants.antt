@@ -1,11 +1,10 @@
-use Rattle.std.proofs.Common.{◌≡◌, ◌<◌, ℕ, length, slice_index}
+use Rattle.std.proofs.Common.{◌≡◌, ◌-◌, ◌<◌, ℕ, length, slice_index}
 use Rattle.buck_stem.specs.Stem.{least_to}
-use Rattle.buck_stem.proofs.Lows.{IsLow}
-use Rattle.buck_stem.proofs.stem.put_lows.Given as goal
+use Rattle.buck_stem.proofs.points.diameters.put_lows.Given as goal
 
 abbrev pub invariant-loop-i : goal.invariant-loop-i
 invariant-loop-i l = record {
   number : length l.places ≡ length l.samples;
-  low : IsLow l.samples l.i l.low;
+  low : l.low ≡ least_to l.samples (l.i - 1);
   each : (k : ℕ) → k < l.i → slice_index l.places k ≡ least_to l.samples k;
 }
