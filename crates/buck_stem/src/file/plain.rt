@@ -3,7 +3,7 @@
 //! read into lists that are kept from stem to stem.
 //!
 //! If a text isn't read, the fault says only whether an allocation failed.
-ghost use Rattle.std.specs.Prelude.{◌≡◌, [], IfOk, Ok, true};
+ghost use Rattle.std.specs.Prelude.{◌≡◌, [], ◌∷◌, IfOk, Ok, true};
 ghost use Rattle.buck_record.specs.pass.Cursor.{item_in};
 ghost use Rattle.buck_record.specs.checking.Table.{is_in};
 ghost use Rattle.buck_stem.specs.file.Stm.{table, stm_of};
