@@ -5,8 +5,8 @@ use Rattle.wrong_engine.proofs.Missing.{second_missing}
 use Rattle.wrong_engine.proofs.opened.open_both_missing_stems_as_file_0.Goals as goal
 
 pub prove-unreachable-requires : goal.prove-unreachable-requires
-prove-unreachable-requires c =
-    let runs = c.serve_buck.ensures in
+prove-unreachable-requires g c =
+    let runs = c.serve_buck-outcome.ensures in
     let is = second_missing _ _ _ _ _ _ _ _ _ runs.opened (λ x o. o.2 refl refl) (λ x y f g o p. absurd (search rules))
     runs.answers runs.runs in
     let told = rw (is, c.new-errors.ensures.items) at c.conclude.ensures.told in
