@@ -7,7 +7,7 @@ It reads the clauses of all public functions of the libraries, and goes from the
 lead to, within specs/. PROMISES says which calls a promise is about; the calls that it leaves over stand together at
 the end. A page is counted by the lines of the definitions that are reached, with their comments: the headline by
 itself, each promise beside those above it; a constant of the code that a definition names counts as a line of a page.
-Last come the types of the code that clauses and pages name. The counts are a table of docs/PROOFS.md. docs/HEADLINE.md
+Last come the types of the code that clauses and pages name, by crate. The counts are a table of docs/PROOFS.md. docs/HEADLINE.md
 has the clauses of the headline's calls and the definitions that they lead to, whole, views of types among them. It ends
 in status 1 if one of them is not as it would be written (--write writes both), and if a clause leads into specs/inner/.
 """
@@ -63,7 +63,7 @@ PROMISES = [
     ("all other public calls", ["*"]),
 ]
 
-TYPES = "Types of the code that definitions and clauses name, plain structs and enums in `src/`: "
+TYPES = "Types of the code that definitions and clauses name, plain structs and enums in `src/`: `python3 checks/pages.py` prints them."
 
 # The table in docs/PROOFS.md stands between its head and the line on types.
 TABLE = "| Promise | Lines | Files of definitions, with the lines of each that the promise leads to |"
@@ -321,16 +321,15 @@ def spelled(promise, lengths):
     for name, number in lengths.items():
         named = re.sub(r"/specs/declared/(.*)/TheConstants", r"/src/\1", name.replace(".", "/"))
         crate, part, rest = named.split("/", 2)
-        by_folder.setdefault(f"{crate}/{part}", []).append(f"`{rest}` {number}")
+        by_folder.setdefault(crate if part == "specs" else f"{crate}/{part}", []).append(f"`{rest}` {number}")
     pages = "; ".join(f"`{folder}`: {', '.join(named)}" for folder, named in by_folder.items())
     return f"| {promise[0].upper()}{promise[1:]} | {sum(lengths.values())} | {pages} |"
 
 
 def spelled_types(types):
-    """The line of docs/PROOFS.md on the types of the code, crate by crate."""
+    """The types of the code, a line for each crate."""
     named = [(crate, sorted(name for at, name in types if at == crate)) for crate in libraries()]
-    names = "; ".join(f"`{crate}`: " + ", ".join(f"`{name}`" for name in names) for crate, names in named if names)
-    return f"{TYPES}{names}."
+    return [f"{crate}: {', '.join(names)}" for crate, names in named if names]
 
 
 def in_order(text):
@@ -538,7 +537,7 @@ def headline(found):
 
 
 def lines_wanted():
-    """The table that docs/PROOFS.md must have, the page of the headline, and what leads into specs/inner/."""
+    """The table that docs/PROOFS.md must have, the types of the code, the page of the headline, what leads to specs/inner/."""
     found = {}
     calls = []
     for crate in libraries():
@@ -557,12 +556,12 @@ def lines_wanted():
         wanted.append(spelled(promise, lengths))
         types |= named
         inner += [f"{promise} leads to {name}" for name in lengths if ".inner." in name]
-    return wanted + ["", spelled_types(types)], whole, inner
+    return wanted + ["", TYPES], spelled_types(types), whole, inner
 
 
 def main():
-    wanted, whole, wrong = lines_wanted()
-    print("\n".join(wanted))
+    wanted, types, whole, wrong = lines_wanted()
+    print("\n".join(wanted + types))
     with open(os.path.join(TOP, "docs", "PROOFS.md")) as text:
         told = text.read().split("\n")
     first = told.index(TABLE) if TABLE in told else None
