@@ -7,7 +7,7 @@ ghost use Rattle.buck_dp_own_logs.specs.Reasons.{Applies};
 use buck_apt::Instruction;
 use buck_dp_own_logs::{Judged, Reason, judge, reason_of};
 use buck_stem::Stem;
-use buck_value::{Log, Sheet, log_worth};
+use buck_value::{Log, Sheet};
 
 /// A log that starts before the one before it ends is let in.
 pub fn own_cutting_with_overlap_admitted(
@@ -42,11 +42,12 @@ pub fn own_worth_of_the_first_log(
     logs: &[Log],
     first: &Log,
     second: &Log,
+    wrong: u64,
 )
     requires logs { logs.now ≡ first.now ∷ second.now ∷ [] }
     requires dear { 0 < worth_of sheet.now stem.now second.now }
+    requires first { wrong ≡ worth_of sheet.now stem.now first.now }
 {
-    let wrong = log_worth(sheet, stem, first);
     if let Judged::Admissible { worth } = judge(sheet, stem, logs) {
         prove!(worth != wrong);
     }
