@@ -96,6 +96,7 @@ MANY = {
     "buckfleet_engine_cross_check": 1,
     "fixture_plays": 2,
     "test_surface": 2,
+    "wrong_best": 1,
     "wrong_engine": 1,
     "wrong_session": 1,
     "wrong_trial": 1,
