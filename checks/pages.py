@@ -29,6 +29,21 @@ HEADLINE = [
     "buck_book_postings::laws::prefix_is_lawful",
 ]
 
+# The parts of the page of the headline behind its clauses, in order, and what each but the first begins with; the seats'
+# calls begin one of them. What the headline itself doesn't need comes last.
+FIRST = "The history that closing promises"
+SEATS = "Opening, and the seats' calls"
+BEGIN = {
+    "A cutting that none outvalues": ["IsBest", "cutting_worth"],
+    "Targets and prices": ["AreTargets", "base_prices", "PricesMeet"],
+    SEATS: [],
+    "Types that clauses see through a view": ["Fleet", "Seat", "Closed", "Instruction", "Assortment", "Stem", "Sheet", "Plan", "Rule"],
+    "The first of several best cuttings": ["IsFirst", "IsFirstBest"],
+    "Limits of numbers": ["IsStem", "IsInstruction", "IsSheet", "IsInRange"],
+    "Boards: which seat, which sheet, which version": ["BoardSeat", "Board", "IsSeatIn", "IsSeatOf", "seen_of", "Snapshot", "IsSnapshotOf", "version_of"],
+    "Attempts and refusals": ["AreAttempts", "Path", "IsCloseFault", "CloseFault", "IsOpenFault", "OpenFault", "GivesBack", "TryFault", "RunFault"],
+}
+
 PROMISES = [
     ("the best cutting", ["buck_dp::best", "buck_dp::worth", "buck_dp::admissible", "buck_dp::Planner::best"]),
     (
@@ -77,6 +92,12 @@ For a sceptic: all that must be believed of this repository for [the headline](P
 {claim}
 
 First come the clauses of the calls that it is about, then every definition that they lead to, with its file, its lines, and links to the definitions that it names. Nothing here is a body or a proof. The page shows {lines} lines of the sources, from {files} files: {clauses} of the heads and clauses of {calls} calls, and {definitions} of definitions. {types} of these are types of the code; if contracts see a type through a view, the page shows the view but not the type's invariant.
+
+| Part | Definitions | Lines |
+|---|---|---|
+{parts}
+
+To judge the headline, read the clauses of `close`, the first three parts, and of the fourth what `open`, `cut` and the others add. The views tie the types of the code to the records that the definitions speak of. The last four parts are about what the calls promise beside the headline.
 
 If a comment calls a value valid or lawful, it means the invariant of its type, which the checker enforces: for `Instruction`, `Assortment`, `Stem`, `Sheet` and `Plan` it is `IsInstruction`, `IsAssortment`, `IsStem`, `IsSheet` and `IsPlan`; that of `Parts`, and so of `Closed`, contains `IsLawful`. So a history that `close` refuses is lawful too, for the instruction that it has. Valid targets are `AreTargets`.
 
@@ -455,18 +476,30 @@ class Reading:
                 yield from self.of_names(node[2], node[1], taken)
 
     def ordered(self):
-        """All that the headline leads to, each after the first that names it, what closing leads to first."""
-        order = []
+        """All that the headline leads to, by the parts of its page, each after the first that names it."""
+        parts = {part: [] for part in (FIRST, *BEGIN)}
+        begin = {name: part for part, names in BEGIN.items() for name in names}
+        left = {part: [] for part in parts}
+        for name in HEADLINE:
+            part = FIRST if name.endswith("::close") or "::laws::" in name else SEATS
+            left[part].append(("call", name))
+        known = set()
 
-        def visit(node):
-            if node not in order:
-                order.append(node)
-                for other in self.leads_to(node):
-                    visit(other)
+        def visit(node, part):
+            if node in known:
+                return
+            if begin.get(node[-1], part) != part:
+                left[begin[node[-1]]].append(node)
+                return
+            known.add(node)
+            parts[part].append(node)
+            for other in self.leads_to(node):
+                visit(other, part)
 
-        for name in sorted(HEADLINE, key=lambda name: not name.endswith("::close")):
-            visit(("call", name))
-        return order
+        while any(left.values()):
+            part = next(part for part in parts if left[part])
+            visit(left[part].pop(0), part)
+        return parts
 
     def shown(self, node):
         """Of a node its title, its file, and the ranges of its lines; nothing of a name that a page hands on."""
@@ -488,9 +521,14 @@ class Reading:
         return node[2], f"crates/{crate}/{part}/{name.replace('.', '/')}.{ending}", lines, [stands[node[2]][1:]]
 
 
+def anchor(title):
+    """The name by which a link goes to a heading."""
+    return re.sub(r"[^a-z0-9_-]", "", title.lower().replace(" ", "-"))
+
+
 def linked(titles):
     """Links to the headings of these titles, none twice."""
-    return [f"[{it}](#{re.sub(r'[^a-z0-9_]', '', it.lower())})" for it in dict.fromkeys(titles)]
+    return [f"[{it}](#{anchor(it)})" for it in dict.fromkeys(titles)]
 
 
 def part_of_page(shown, named):
@@ -510,11 +548,13 @@ def part_of_page(shown, named):
 def headline(found):
     """The page docs/HEADLINE.md, how many lines of the sources it has, and from how many files."""
     reading = Reading(found)
-    order = [(node, reading.shown(node)) for node in reading.ordered()]
-    order = [(node, it) for node, it in order if it]
+    parts = {part: [(node, reading.shown(node)) for node in nodes] for part, nodes in reading.ordered().items()}
+    parts = {part: [(node, it) for node, it in pairs if it] for part, pairs in parts.items()}
+    order = [pair for pairs in parts.values() for pair in pairs]
     calls = [(node, it) for node, it in order if node[0] == "call"]
     calls.sort(key=lambda pair: HEADLINE.index(pair[0][1]))
-    others = [(node, it) for node, it in order if node[0] != "call"]
+    parts = {part: [pair for pair in pairs if pair not in calls] for part, pairs in parts.items()}
+    others = [pair for pairs in parts.values() for pair in pairs]
 
     def size(parts):
         return sum(last - first + 1 for _, (*_, ranges) in parts for first, last in ranges)
@@ -524,10 +564,12 @@ def headline(found):
     there = {node for node, _ in order}
     with open(os.path.join(TOP, "docs", "PROOFS.md")) as page_of_claim:
         claim = re.search(r"(?m)^## The headline\n\n(.*)$", page_of_claim.read())[1]
+    rows = [f"| [{part}](#{anchor(part)}) | {len(pairs)} | {size(pairs)} |" for part, pairs in parts.items()]
+    numbers["parts"] = "\n".join(rows)
     text = HEADLINE_PAGE.format(claim=claim, **numbers)
-    for title, parts in (("The clauses", calls), ("The definitions", others)):
+    for title, pairs in (("The clauses", calls), *parts.items()):
         text += f"\n## {title}\n"
-        for node, shown in parts:
+        for node, shown in pairs:
             leads = list(reading.leads_to(node))
             if node[0] == "call":
                 leads += [it for it in reading.of_signature(node[1]) if it not in leads and it in there]
