@@ -8,8 +8,9 @@ lead to, within specs/. PROMISES says which calls a promise is about; the calls 
 the end. A page is counted by the lines of the definitions that are reached, with their comments: the headline by
 itself, each promise beside those above it; a constant of the code that a definition names counts as a line of a page.
 Last come the types of the code that clauses and pages name, by crate. The counts are a table of docs/PROOFS.md. docs/HEADLINE.md
-has the clauses of the headline's calls and the definitions that they lead to, whole, views of types among them. It ends
-in status 1 if one of them is not as it would be written (--write writes both), and if a clause leads into specs/inner/.
+has the clauses of the headline's calls and the definitions that it needs, whole, docs/HEADLINE_BESIDE.md all others that
+they lead to, views of types among them. It ends in status 1 if one of these is not as it would be written (--write
+writes all), and if a clause leads into specs/inner/.
 """
 import fnmatch
 import os
@@ -29,20 +30,26 @@ HEADLINE = [
     "buck_book_postings::laws::prefix_is_lawful",
 ]
 
-# The parts of the page of the headline behind its clauses, in order, and what each but the first begins with; the seats'
-# calls begin one of them. What the headline itself doesn't need comes last.
-FIRST = "The history that closing promises"
+# The parts of the page of the headline, in order, and the definitions that each begins with; the calls begin two of
+# them. Those of BESIDE, which the headline itself doesn't need, are on a page of their own.
+RECORDS = "The records"
+HISTORY = "The history that closing promises"
 SEATS = "Opening, and the seats' calls"
 BEGIN = {
+    RECORDS: ["InstructionParts", "SheetParts", "StemParts", "Log", "Cutting", "Class", "Posting", "Kept", "HistoryParts", "SeatParts", "FleetParts", "ClosedParts", "Reply", "DemandReply", "PlanParts", "Standing"],
+    HISTORY: ["IsOneHistory", "IsHandedOut", "IsCrew", "seats_of", "parts_of", "kept_by", "replies_of", "replies_from", "IsLawful", "Follows", "Holds"],
     "A cutting that none outvalues": ["IsBest", "cutting_worth"],
     "Targets and prices": ["AreTargets", "base_prices", "PricesMeet"],
     SEATS: [],
+}
+BESIDE = {
     "Types that clauses see through a view": ["Fleet", "Seat", "Closed", "Instruction", "Assortment", "Stem", "Sheet", "Plan", "Rule"],
     "The first of several best cuttings": ["IsFirst", "IsFirstBest"],
     "Limits of numbers": ["IsStem", "IsInstruction", "IsSheet", "IsInRange"],
     "Boards: which seat, which sheet, which version": ["BoardSeat", "Board", "IsSeatIn", "IsSeatOf", "seen_of", "Snapshot", "IsSnapshotOf", "version_of"],
     "Attempts and refusals": ["AreAttempts", "Path", "IsCloseFault", "CloseFault", "IsOpenFault", "OpenFault", "GivesBack", "TryFault", "RunFault"],
 }
+BESIDE_NAME = "HEADLINE_BESIDE.md"
 
 PROMISES = [
     ("the best cutting", ["buck_dp::best", "buck_dp::worth", "buck_dp::admissible", "buck_dp::Planner::best"]),
@@ -91,39 +98,44 @@ For a sceptic: all that must be believed of this repository for [the headline](P
 
 {claim}
 
-First come the clauses of the calls that it is about, then every definition that they lead to, with its file, its lines, and links to the definitions that it names. Nothing here is a body or a proof. The page shows {lines} lines of the sources, from {files} files: {clauses} of the heads and clauses of {calls} calls, and {definitions} of definitions. {types} of these are types of the code; if contracts see a type through a view, the page shows the view but not the type's invariant.
+Behind a summary come the records that the definitions speak of, the clauses of the calls that the headline is about, and every definition that it needs, each with its file, its lines, and links to what it names. Nothing here is a body or a proof. [Beside the headline](HEADLINE_BESIDE.md) has what the same clauses name and the headline doesn't need.
 
 | Part | Definitions | Lines |
 |---|---|---|
 {parts}
 
-To judge the headline, read the clauses of `close`, the first three parts, and of the fourth what `open`, `cut` and the others add. The views tie the types of the code to the records that the definitions speak of. The last four parts are about what the calls promise beside the headline.
+The two pages show {lines} lines of the sources, from {files} files: {clauses} of the heads and clauses of {calls} calls, and {definitions} of definitions, {types} of which are types of the code. [PROOFS](PROOFS.md#what-is-assumed) says what is assumed beside this repository (the checker, the compilers, the standard library and two others that are named here, `atomic_table` and `boxcar`), and what is not proved.
 
 If a comment calls a value valid or lawful, it means the invariant of its type, which the checker enforces: for `Instruction`, `Assortment`, `Stem`, `Sheet` and `Plan` it is `IsInstruction`, `IsAssortment`, `IsStem`, `IsSheet` and `IsPlan`; that of `Parts`, and so of `Closed`, contains `IsLawful`. So a history that `close` refuses is lawful too, for the instruction that it has. Valid targets are `AreTargets`.
 
-The standard library, `atomic_table` and `boxcar` are not repeated; [PROOFS](PROOFS.md#what-is-assumed) lists what else is assumed, and what is not proved. No clause here constrains a `CutFault`, a `RetargetFault` or a caller's `Gate`, which hears each plan, so they are not shown.
-
 ## In plain words
 
-A *posting* is a cut (the logs of one stem) or a demand (new targets). A *sheet* is the price list of a version, and a *period* so many cuts, after which, and after each demand, comes the next sheet. A seat's *kept list* has its answers, each with its position in the history.
+A *book* is the history of cuts and demands that the fleet's harvesters share. A *posting* is a cut (the logs of one stem) or a demand (new targets). A *sheet* is the price list of a version, with a price for each *class*: a row of top diameters and a column of length of an assortment. A *period* is so many cuts; after its last cut, and after each demand, comes the next sheet. A *seat* is what a harvester calls the fleet with; its *kept list* has its answers, each with its position in the history.
 
-If `close` answers Ok (`IsOneHistory`), then:
+| The headline says | If `close` answers Ok, because of | So it can't be that |
+|---|---|---|
+| every number of harvesters | `room` of `open`: 1 to 64 seats | |
+| every order of their steps | No clause has a condition on other threads: each call keeps its clauses, whatever they do meanwhile | |
+| a history of one thread, replayed from the empty book | `same_instruction` and `lawful` of `IsOneHistory`: each posting follows from those before it (`Follows`). By the law, each beginning of the history is lawful too | the history has a posting that a book of one thread couldn't add there |
+| each seat's replies once and in their order | `replies`: for each harvester, its postings with their positions are its kept list (`lists`). Each Ok of `cut`, `try_commit` and `retarget` puts one answer behind that list (`KeepsOne`), and nothing else changes it (`KeepsNothing`) | an answer is missing, stands twice, or stands elsewhere |
+| and nothing else | `IsCrew`: one seat for each harvester. `total`: as many postings as the kept lists hold together | there is a posting of anyone else |
+| each is a demand or an admissible cutting that none outvalues | `holds` of `Follows`: `IsBest`, or `AreTargets` | logs overlap, are of a grade or a diameter that isn't taken, or others are worth more |
+| under the prices in force there | `version_in_force`: the version is the number of period ends before | a cut is valued by an older sheet |
+| the rule's relation to demand and logs before | `sheets_number`, `base_sheet` and `sheets_meet`: one sheet for the beginning, with the base prices, and one for each period end, whose prices are in the relation `Meets` to the targets and the counts after that end | a price leaves its limit, or moves away from the target |
 
-- *A history of one thread*: the history is lawful (`IsLawful`) for the instruction that the fleet was opened with. Each posting follows from those before it: it has its harvester's next number and the version then in force; a cut is admissible and none is worth more under that version's sheet; a demand has valid targets. There is a sheet for each period end; the first has the base prices, and each later one prices in the relation `Meets` to the targets and counts after that end. By the law, each first part of it is lawful too: one thread could have made it from the empty book.
-- *Each seat's replies, once and in order*: for each harvester, its postings with their positions are its kept list. Each Ok of `cut`, `try_commit` and `retarget` adds one answer to that list (`KeepsOne`), and nothing else adds any (`KeepsNothing`).
-- *Nothing else*: there is one seat for each harvester (`IsCrew`), and the history has as many postings as the kept lists hold together (`total`), so none is of anyone else.
+For example, in periods of two cuts, with two harvesters:
 
-Not promised: that a call succeeds or returns; that two seats' answers stand in the order of the clock; that a sheet's prices are the answers of the fleet's own rule, only that they keep the relation, as base prices always do; that a sheet shown by `snapshot` is one of the history's.
+```
+position  harvester  number  version
+0         1          1       0        cut
+1         2          1       0        cut     ends the period: sheet 1
+2         1          2       1        demand  ends the period: sheet 2, by the new targets
+3         2          2       2        cut
+```
 
-## Seats of another fleet
+There are three sheets. The kept list of harvester 1 has positions 0 and 2, that of harvester 2 has 1 and 3. Of a class with a base price of 500 and a limit of 100 per mille, the price is 500 to 550 if too little of it was cut, 450 to 500 if too much, and 500 if neither.
 
-`close` doesn't ask that each seat is one of its fleet (`IsSeatIn`), and need not: a seat of another fleet has another type, and the condition `parts` says that none of its own is missing.
-
-A *ledger* (`std::sync::ledger`) is a fixed number of parts that exist only in proofs; `L` names one, and `L.parts` is how many parts it has. A `Blank` is a ledger that isn't in use yet: it has a name of its own, can't be copied, and `open` uses it up. Because `open` requires that this name is `L`'s (`blank`), at most one fleet is ever opened with `L`, and `L.parts` is 64.
-
-`open` hands out seats that together hold all 64 parts (`AreOpened`). All holders of parts of one ledger hold `L.parts` together (the library guarantees this), and every seat has at least one (an invariant of `Seat`). `close` requires that its seats together hold `L.parts` parts, so they are all the seats that the fleet has. A seat of another fleet has parts of another ledger, and so another type. A seat that is dropped takes its parts with it; its fleet can't be closed.
-
-Of the public calls of `buck_fleet`, only those on this page and `run_fleet` can make a seat or change its kept list, whose fields are private. `run_fleet` makes these calls for each seat, in a thread of its own; its clauses (`HaveRun`) aren't on this page.
+Not promised: that a call succeeds or returns; that two seats' answers stand in the order of the clock; that a sheet's prices are the answers of the fleet's own rule, only that they keep the relation, as base prices always do; that a sheet shown by `snapshot` is one of the history's. No clause constrains a `CutFault`, a `RetargetFault` or a caller's `Gate`, which hears each plan, so they are not shown.
 
 ## How to read it
 
@@ -167,8 +179,28 @@ Of the public calls of `buck_fleet`, only those on this page and `run_fleet` can
 | `Wait`, `Global`, `Arc`, `Vec`, `Option`, `Result` | the right to wait, without which a call can't; memory of malloc, without which it takes none; as in Rust |
 | `Table`, `Seat<(), u64>`, `table_id` | of `atomic_table`: words that threads share, a thread's place at them (not the `Seat` below), their identity |
 | `boxcar::Vec`, `Pushed`, `Shows v p` | a list that only grows; the proof that something was pushed; p is of the list v |
+| `f x y` | f of x and y; `f x` alone is the function or the statement that still takes y. `→` binds weakest, then `⊎`, then `×` |
 
 The words from `take` to `IfNone` are defined in `Rattle.std.specs`: `rt lemma WORD` prints each.
+"""
+
+OTHER_FLEETS = """
+## Seats of another fleet
+
+`close` doesn't ask that each seat is one of its fleet (`IsSeatIn`), and need not: a seat of another fleet has another type, and the condition `parts` says that none of its own is missing.
+
+A *ledger* (`std::sync::ledger`) is a fixed number of parts that exist only in proofs; `L` names one, and `L.parts` is how many parts it has. A `Blank` is a ledger that isn't in use yet: it has a name of its own, can't be copied, and `open` uses it up. Because `open` requires that this name is `L`'s (`blank`), at most one fleet is ever opened with `L`, and `L.parts` is 64.
+
+`open` hands out seats that together hold all 64 parts (`AreOpened`). All holders of parts of one ledger hold `L.parts` together (the library guarantees this), and every seat has at least one (an invariant of `Seat`). `close` requires that its seats together hold `L.parts` parts, so they are all the seats that the fleet has. A seat of another fleet has parts of another ledger, and so another type. A seat that is dropped takes its parts with it; its fleet can't be closed.
+
+Of the public calls of `buck_fleet`, only those on this page and `run_fleet` can make a seat or change its kept list, whose fields are private. `run_fleet` makes these calls for each seat, in a thread of its own; its clauses (`HaveRun`) aren't on this page.
+"""
+
+BESIDE_PAGE = """# Beside the headline
+
+`python3 checks/pages.py --write` writes this page. Don't edit it.
+
+What the clauses on [the page of the headline](HEADLINE.md) name and the headline doesn't need: how the types of the code are seen as records, which of several best cuttings is taken, the limits of valid values, how seats see sheets, and why calls are refused. A type's view is shown, but not its invariant.
 """
 
 HEAD = r"(?:abbrev|unfoldable|pub record|record)\s+(?:pub\s+)?"
@@ -477,11 +509,11 @@ class Reading:
 
     def ordered(self):
         """All that the headline leads to, by the parts of its page, each after the first that names it."""
-        parts = {part: [] for part in (FIRST, *BEGIN)}
-        begin = {name: part for part, names in BEGIN.items() for name in names}
+        parts = {part: [] for part in (*BEGIN, *BESIDE)}
+        begin = {name: part for part, names in (BEGIN | BESIDE).items() for name in names}
         left = {part: [] for part in parts}
         for name in HEADLINE:
-            part = FIRST if name.endswith("::close") or "::laws::" in name else SEATS
+            part = HISTORY if name.endswith("::close") or "::laws::" in name else SEATS
             left[part].append(("call", name))
         known = set()
 
@@ -499,6 +531,8 @@ class Reading:
         while any(left.values()):
             part = next(part for part in parts if left[part])
             visit(left[part].pop(0), part)
+        history = BEGIN[HISTORY]
+        parts[HISTORY].sort(key=lambda node: history.index(node[-1]) if node[-1] in history else len(history))
         return parts
 
     def shown(self, node):
@@ -526,27 +560,44 @@ def anchor(title):
     return re.sub(r"[^a-z0-9_-]", "", title.lower().replace(" ", "-"))
 
 
-def linked(titles):
-    """Links to the headings of these titles, none twice."""
-    return [f"[{it}](#{anchor(it)})" for it in dict.fromkeys(titles)]
+def headed(titles):
+    """The heading of calls or definitions that stand together."""
+    return ", ".join(f"`{it}`" for it in titles)
 
 
-def part_of_page(shown, named):
-    """A call or a definition on the page: its title, its file and lines, links to those that it names, its text."""
-    name, file, lines, ranges = shown
-    spans = [f"{first + 1} to {last + 1}" if first < last else f"{first + 1}" for first, last in ranges]
-    code = []
+def together(pairs):
+    """Calls and definitions in groups that stand together: those that follow each other from one file."""
+    groups = []
+    for node, shown in pairs:
+        if groups and node[0] == groups[-1][0][0][0] == "definition" and groups[-1][0][1][1] == shown[1]:
+            groups[-1].append((node, shown))
+        else:
+            groups.append([(node, shown)])
+    return groups
+
+
+def spans(ranges):
+    """Lines by their numbers from 1."""
+    return " and ".join(f"{first + 1} to {last + 1}" if first < last else f"{first + 1}" for first, last in ranges)
+
+
+def part_of_page(group, named):
+    """Calls or definitions on the page that stand together: their titles, file and lines, links to those that they name,
+    and their text."""
+    name, file, lines, _ = group[0]
+    code, ranges = [], [it for shown in group for it in shown[3]]
     for first, last in ranges:
         part = lines[first : last + 1]
         margin = min(len(line) - len(line.lstrip()) for line in part if line)
         code += ([""] if code else []) + [line[margin:] for line in part]
     links = f"; names {', '.join(named)}" if named else ""
     body = "\n".join(code)
-    return f"\n### `{name}`\n\n{file}, lines {' and '.join(spans)}{links}\n\n```\n{body}\n```\n"
+    return f"\n### {headed(it[0] for it in group)}\n\n{file}, lines {spans(ranges)}{links}\n\n```\n{body}\n```\n"
 
 
 def headline(found):
-    """The page docs/HEADLINE.md, how many lines of the sources it has, and from how many files."""
+    """The pages docs/HEADLINE.md and docs/HEADLINE_BESIDE.md, how many lines of the sources they have, and from how many
+    files."""
     reading = Reading(found)
     parts = {part: [(node, reading.shown(node)) for node in nodes] for part, nodes in reading.ordered().items()}
     parts = {part: [(node, it) for node, it in pairs if it] for part, pairs in parts.items()}
@@ -556,26 +607,44 @@ def headline(found):
     parts = {part: [pair for pair in pairs if pair not in calls] for part, pairs in parts.items()}
     others = [pair for pairs in parts.values() for pair in pairs]
 
-    def size(parts):
-        return sum(last - first + 1 for _, (*_, ranges) in parts for first, last in ranges)
+    def size(pairs):
+        return sum(last - first + 1 for _, (*_, ranges) in pairs for first, last in ranges)
 
     numbers = {"lines": size(order), "clauses": size(calls), "calls": len(calls), "definitions": size(others)}
     numbers |= {"files": len({it[1] for _, it in order}), "types": sum(node[0] == "type" for node, _ in order)}
+    rows = {part: f"[{part}]({BESIDE_NAME if part in BESIDE else ''}#{anchor(part)}) | {len(parts[part])} | {size(parts[part])}" for part in parts}
+    numbers["parts"] = "\n".join(f"| {row} |" for row in rows.values())
     there = {node for node, _ in order}
     with open(os.path.join(TOP, "docs", "PROOFS.md")) as page_of_claim:
         claim = re.search(r"(?m)^## The headline\n\n(.*)$", page_of_claim.read())[1]
-    rows = [f"| [{part}](#{anchor(part)}) | {len(pairs)} | {size(pairs)} |" for part, pairs in parts.items()]
-    numbers["parts"] = "\n".join(rows)
-    text = HEADLINE_PAGE.format(claim=claim, **numbers)
-    for title, pairs in (("The clauses", calls), *parts.items()):
-        text += f"\n## {title}\n"
-        for node, shown in pairs:
-            leads = list(reading.leads_to(node))
-            if node[0] == "call":
-                leads += [it for it in reading.of_signature(node[1]) if it not in leads and it in there]
-            named = [reading.shown(it)[0] for it in leads if it != node and reading.shown(it)]
-            text += part_of_page(shown, linked(named))
-    return text, numbers["lines"], numbers["files"]
+    groups = {part: together(pairs) for part, pairs in ({"The clauses": calls} | parts).items()}
+    at, records = {}, {node for node, _ in parts[RECORDS]}
+    for part, found_groups in groups.items():
+        for group in found_groups:
+            to = f"#{anchor(headed(it[0] for _, it in group))}"
+            at.update({node: (part in BESIDE, to) for node, _ in group})
+
+    def written(part):
+        text = f"\n## {part}\n"
+        for group in groups[part]:
+            leads = []
+            for node, _ in group:
+                leads += reading.leads_to(node)
+                if node[0] == "call":
+                    leads += [it for it in reading.of_signature(node[1]) if it in there]
+            own, named = {node for node, _ in group}, {}
+            for it in leads:
+                # The records were just read, so links to them would hide the others.
+                if it not in own and it in at and (part == RECORDS or it not in records):
+                    page = "" if at[it][0] == (part in BESIDE) else BESIDE_NAME if at[it][0] else "HEADLINE.md"
+                    named[reading.shown(it)[0]] = f"[{reading.shown(it)[0]}]({page}{at[it][1]})"
+            text += part_of_page([it for _, it in group], named.values())
+        return text
+
+    text = HEADLINE_PAGE.format(claim=claim, **numbers) + written(RECORDS) + written("The clauses") + OTHER_FLEETS
+    text += "".join(written(part) for part in BEGIN if part != RECORDS)
+    beside = BESIDE_PAGE + "".join(written(part) for part in BESIDE)
+    return text, beside, numbers["lines"], numbers["files"]
 
 
 def lines_wanted():
@@ -588,8 +657,8 @@ def lines_wanted():
         for words, lines in files_in(crate, "src", ".rt"):
             found[".".join([crate, "specs", "declared"] + words + ["TheConstants"])] = constants(lines)
         calls += public_calls(crate)
-    whole, number, files = headline(found)
-    row = f"| The headline, by itself | {number} | whole on [HEADLINE](HEADLINE.md), from {files} files |"
+    whole, beside, number, files = headline(found)
+    row = f"| The headline, by itself | {number} | whole on [HEADLINE](HEADLINE.md) and [the page beside it](HEADLINE_BESIDE.md), from {files} files |"
     wanted, types, known, inner = [TABLE, "|---|---|---|", row], set(), set(), []
     left = {name for name, _, _ in calls}
     for promise, patterns in PROMISES:
@@ -598,7 +667,7 @@ def lines_wanted():
         wanted.append(spelled(promise, lengths))
         types |= named
         inner += [f"{promise} leads to {name}" for name in lengths if ".inner." in name]
-    return wanted + ["", TYPES], spelled_types(types), whole, inner
+    return wanted + ["", TYPES], spelled_types(types), {"HEADLINE.md": whole, BESIDE_NAME: beside}, inner
 
 
 def main():
@@ -611,7 +680,7 @@ def main():
     if first is None or last is None:
         wrong.append("docs/PROOFS.md has no place for the table: its head and the line on types")
         first, last, wanted = 0, -1, []
-    pages = {"PROOFS.md": "\n".join(told[:first] + wanted + told[last + 1 :]), "HEADLINE.md": whole}
+    pages = {"PROOFS.md": "\n".join(told[:first] + wanted + told[last + 1 :]), **whole}
     for name, text in pages.items():
         path = os.path.join(TOP, "docs", name)
         if "--write" in sys.argv:

@@ -37,8 +37,8 @@ standing_of i a c ps =
 -- one price for each class, each in the price relation with the targets in force and the counts after some postings
 pub record PricesMeet (i : InstructionParts) (ps : List Posting) (prices : List ℕ) : Type 0 where
   pub one_each : length prices ≡ classes i
-  pub each_meets : (c : Class) (k : IsClass i c)
-      → Meets (standing_of i k.assortment c ps) (slice_index prices (index_of i c))
+  pub each_meets : (c : Class) (there : IsClass i c)
+      → Meets (standing_of i there.assortment c ps) (slice_index prices (index_of i c))
 
 -- the prices of a version
 abbrev pub prices_at : List (List ℕ) → ℕ → List ℕ
