@@ -106,11 +106,11 @@ Behind a summary come the records that the definitions speak of, the clauses of 
 
 The two pages show {lines} lines of the sources, from {files} files: {clauses} of the heads and clauses of {calls} calls, and {definitions} of definitions, {types} of which are types of the code. [PROOFS](PROOFS.md#what-is-assumed) says what is assumed beside this repository (the checker, the compilers, the standard library and two others that are named here, `atomic_table` and `boxcar`), and what is not proved.
 
-If a comment calls a value valid or lawful, it means the invariant of its type, which the checker enforces: for `Instruction`, `Assortment`, `Stem`, `Sheet` and `Plan` it is `IsInstruction`, `IsAssortment`, `IsStem`, `IsSheet` and `IsPlan`; that of `Parts`, and so of `Closed`, contains `IsLawful`. So a history that `close` refuses is lawful too, for the instruction that it has. Valid targets are `AreTargets`.
+If a comment calls a value valid or lawful, it means the invariant of its type, which the checker enforces: for `Instruction`, `Assortment`, `Stem`, `Sheet` and `Plan` it is `IsInstruction`, `IsAssortment`, `IsStem`, `IsSheet` and `IsPlan`; that of `Parts`, the content of a book, and so of `Closed`, contains `IsLawful`. So a history that `close` refuses is lawful too, for the instruction that it has. A valid instruction has a period of at least 1, limits of diameters and lengths that rise, and one price and one target for each class. Valid targets are `AreTargets`.
 
 ## In plain words
 
-A *book* is the history of cuts and demands that the fleet's harvesters share. A *posting* is a cut (the logs of one stem) or a demand (new targets). A *sheet* is the price list of a version, with a price for each *class*: a row of top diameters and a column of length of an assortment. A *period* is so many cuts; after its last cut, and after each demand, comes the next sheet. A *seat* is what a harvester calls the fleet with; its *kept list* has its answers, each with its position in the history.
+An *instruction* says which *assortments* the mill takes (species, grades, diameters, lengths, and a trim: what a log takes up beyond its length), their base prices and their targets. A *plan* is the first of the best cuttings of a stem, from its thick end (the *butt*) on, under one sheet. A *book* is the history of cuts and demands that the fleet's harvesters share. A *posting* is a cut (the logs of one stem) or a demand (new targets). A *sheet* is the price list of a version, with a price for each *class*: a row of top diameters and a column of length of an assortment. A *period* is so many cuts; after its last cut, and after each demand, comes the next sheet. A *seat* is what a harvester calls the fleet with; its *kept list* has its answers, each with its position in the history. A *board* shows the newest sheets to seats.
 
 | The headline says | If `close` answers Ok, because of | So it can't be that |
 |---|---|---|
@@ -121,7 +121,7 @@ A *book* is the history of cuts and demands that the fleet's harvesters share. A
 | and nothing else | `IsCrew`: one seat for each harvester. `total`: as many postings as the kept lists hold together | there is a posting of anyone else |
 | each is a demand or an admissible cutting that none outvalues | `holds` of `Follows`: `IsBest`, or `AreTargets` | logs overlap, are of a grade or a diameter that isn't taken, or others are worth more |
 | under the prices in force there | `version_in_force`: the version is the number of period ends before | a cut is valued by an older sheet |
-| the rule's relation to demand and logs before | `sheets_number`, `base_sheet` and `sheets_meet`: one sheet for the beginning, with the base prices, and one for each period end, whose prices are in the relation `Meets` to the targets and the counts after that end | a price leaves its limit, or moves away from the target |
+| the rule's relation to demand and logs before | `sheets_number`, `base_sheet` and `sheets_meet`: one sheet for the beginning, with the base prices, and one for each period end, whose prices are in the relation `Meets` to the targets and the counts after that end | a price leaves its limit, or lies on the wrong side of its base price |
 
 For example, in periods of two cuts, with two harvesters:
 
@@ -133,7 +133,7 @@ position  harvester  number  version
 3         2          2       2        cut
 ```
 
-There are three sheets. The kept list of harvester 1 has positions 0 and 2, that of harvester 2 has 1 and 3. Of a class with a base price of 500 and a limit of 100 per mille, the price is 500 to 550 if too little of it was cut, 450 to 500 if too much, and 500 if neither.
+There are three sheets. The kept list of harvester 1 has positions 0 and 2, that of harvester 2 has 1 and 3. Of a class with a base price of 500 and a limit of 100 per mille, the price is 500 to 550 if its share of the logs cut of its assortment is smaller than its share of the targets, 450 to 500 if greater, and 500 if equal.
 
 Not promised: that a call succeeds or returns; that two seats' answers stand in the order of the clock; that a sheet's prices are the answers of the fleet's own rule, only that they keep the relation, as base prices always do; that a sheet shown by `snapshot` is one of the history's. No clause constrains a `CutFault`, a `RetargetFault` or a caller's `Gate`, which hears each plan, so they are not shown.
 
@@ -149,7 +149,7 @@ Not promised: that a call succeeds or returns; that two seats' answers stand in 
 | `λ x. e` | the function that gives e for x |
 | `[]`, `x ∷ xs`, `xs ++ ys` | the empty list; x before the list xs; one list after the other |
 | `==`, `&&`, `\\|\\|`, `nat_eq`, `nat_le` | tests, which give `true` or `false` |
-| `Type 0`, `{{F : Type 0}}` | the type of statements; an argument that is left out when it is clear |
+| `Type 0`, `{{F : Type 0}}` | the type of statements and of plain types; an argument that is left out when it is clear |
 | `u8` to `u64`, `usize` | numbers of so many bits; natural numbers in definitions |
 | `abbrev`, `unfoldable` | begin a definition; they say when the checker unfolds it, which doesn't affect its meaning |
 | `record` | a tuple with named fields; one that states something holds if there are values for all its fields |
@@ -167,18 +167,15 @@ Not promised: that a call succeeds or returns; that two seats' answers stand in 
 | `slice_get xs i` | element i, from 0, if there is one |
 | `slice_index xs i`, `slice_index_or xs i d` | element i, else 0; element i, else d |
 | `All P xs`, `EachIndex xs P` | P of each element; P of each index |
-| `Contains xs x`, `IsStrictlyIncreasing xs` | x is an element; each element is above the one before |
+| `Contains xs x` | x is an element |
 | `count_by p xs`, `sum_by f xs` | how many elements pass p; the sum of f over the elements |
-| `prefix_len p xs`, `suffix_len p xs` | how many elements pass p from the front on; from the end back |
 | `cond b x y`, `if b then x else y` | x if b is true, else y |
 | `unwrap_or o d`, `option_or o p`, `option_map f o` | the value of o, else d; o if it has a value, else p; f of the value |
-| `IfOk r P`, `IfErr r P`, `IfSome o P`, `ForSome o P` | if there is such a value, P of it |
-| `IfNone o A`, `ForNone o A` | if there is no value, A |
+| `IfOk r P`, `IfErr r P`, `IfSome o P` | if there is such a value, P of it |
+| `IfNone o A` | if there is no value, A |
 | `Shared F A B`, `F.Fn`, `Bor X` | what is known of closures of type F, from A to B; what is known of those of type `F`; a borrowed X. `Bor X × Unit {{0}}` is the list of arguments |
 | `g.pre f x`, `g.post f x r` | f may be called with x; r is a possible answer |
-| `Wait`, `Global`, `Arc`, `Vec`, `Option`, `Result` | the right to wait, without which a call can't; memory of malloc, without which it takes none; as in Rust |
-| `Table`, `Seat<(), u64>`, `table_id` | of `atomic_table`: words that threads share, a thread's place at them (not the `Seat` below), their identity |
-| `boxcar::Vec`, `Pushed`, `Shows v p` | a list that only grows; the proof that something was pushed; p is of the list v |
+| `Wait`, `Global`, `Arc`, `Vec`, `Option`, `Result` | a call without this right never waits; one without this allocator takes no memory; as in Rust |
 | `f x y` | f of x and y; `f x` alone is the function or the statement that still takes y. `→` binds weakest, then `⊎`, then `×` |
 
 The words from `take` to `IfNone` are defined in `Rattle.std.specs`: `rt lemma WORD` prints each.
@@ -187,11 +184,11 @@ The words from `take` to `IfNone` are defined in `Rattle.std.specs`: `rt lemma W
 OTHER_FLEETS = """
 ## Seats of another fleet
 
-`close` doesn't ask that each seat is one of its fleet (`IsSeatIn`), and need not: a seat of another fleet has another type, and the condition `parts` says that none of its own is missing.
-
 A *ledger* (`std::sync::ledger`) is a fixed number of parts that exist only in proofs; `L` names one, and `L.parts` is how many parts it has. A `Blank` is a ledger that isn't in use yet: it has a name of its own, can't be copied, and `open` uses it up. Because `open` requires that this name is `L`'s (`blank`), at most one fleet is ever opened with `L`, and `L.parts` is 64.
 
-`open` hands out seats that together hold all 64 parts (`AreOpened`). All holders of parts of one ledger hold `L.parts` together (the library guarantees this), and every seat has at least one (an invariant of `Seat`). `close` requires that its seats together hold `L.parts` parts, so they are all the seats that the fleet has. A seat of another fleet has parts of another ledger, and so another type. A seat that is dropped takes its parts with it; its fleet can't be closed.
+`open` hands out seats that together hold all 64 parts (`AreOpened`). All holders of parts of one ledger hold `L.parts` together (the library guarantees this), and every seat has at least one (an invariant of `Seat`). `close` requires that its seats together hold `L.parts` parts (`parts`), so they are all the seats that the fleet has. A seat of another fleet has parts of another ledger, and so another type: hence `close` need not ask that each seat is one of its fleet (`IsSeatIn`). A seat that is dropped takes its parts with it; its fleet can't be closed.
+
+The seats that `open` hands out meet each condition on seats: `crew` and `parts` of `close` by `crew` and `all_parts` of `AreOpened`, `IsSeatIn` of the other calls by `of_board` of `IsNew`; and each call keeps them (`seat`, and `Keeps`).
 
 Of the public calls of `buck_fleet`, only those on this page and `run_fleet` can make a seat or change its kept list, whose fields are private. `run_fleet` makes these calls for each seat, in a thread of its own; its clauses (`HaveRun`) aren't on this page.
 """
@@ -201,6 +198,14 @@ BESIDE_PAGE = """# Beside the headline
 `python3 checks/pages.py --write` writes this page. Don't edit it.
 
 What the clauses on [the page of the headline](HEADLINE.md) name and the headline doesn't need: how the types of the code are seen as records, which of several best cuttings is taken, the limits of valid values, how seats see sheets, and why calls are refused. A type's view is shown, but not its invariant.
+
+| Form | Meaning |
+|---|---|
+| `Table`, `Seat<(), u64>`, `table_id` | of `atomic_table`: words that threads share, a thread's place at them (not the `Seat` below), their identity |
+| `boxcar::Vec`, `Pushed`, `Shows v p` | a list that only grows; the proof that something was pushed; p is of the list v |
+| `prefix_len p xs`, `suffix_len p xs` | how many elements pass p from the front on; from the end back |
+| `IsStrictlyIncreasing xs` | each element is above the one before |
+| `ForSome o P`, `ForNone o A` | if there is a value, P of it; if there is none, A |
 """
 
 HEAD = r"(?:abbrev|unfoldable|pub record|record)\s+(?:pub\s+)?"

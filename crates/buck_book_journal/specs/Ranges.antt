@@ -19,7 +19,7 @@ pub record AreSheetPrices (prices : List ℕ) : Type 0 where
   pub number : length prices ≤ 16384
   pub range : all_within 0 HIGHEST_PRICE prices ≡ true
 
--- who posted, which of its harvester's calls it is, and the version
+-- who posted, which of its harvester's postings it is, and the version
 abbrev pub call_of_cut : EntryParts → Call
 call_of_cut e = record { harvester = e.harvester; number = e.number; version = e.version }
 

@@ -5,7 +5,7 @@ use Rattle.buck_value.specs.declared.log.Log.{Log}
 
 pub record EntryParts : Type 0 where
   pub harvester : ℕ
-  pub number : ℕ  -- which of its harvester's calls it is, from 1
+  pub number : ℕ  -- which of its harvester's postings it is, from 1
   pub stem : StemParts
   pub version : ℕ  -- of the sheet that it was planned under
   pub logs : List Log
@@ -13,6 +13,6 @@ pub record EntryParts : Type 0 where
 
 pub record DemandParts : Type 0 where
   pub harvester : ℕ
-  pub number : ℕ  -- which of its harvester's calls it is, from 1
+  pub number : ℕ  -- which of its harvester's postings it is, from 1
   pub version : ℕ  -- of the sheet in force before it
-  pub targets : List ℕ  -- the target of each class, in force from here on for all logs since the first
+  pub targets : List ℕ  -- the target of each class from here on, towards which all logs count

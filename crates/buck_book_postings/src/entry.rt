@@ -13,7 +13,7 @@ use std::sync::Arc;
 pub struct Entry {
     /// Number of the harvester that cut it, 1 to 64.
     pub harvester: u32,
-    /// Which of its harvester's calls it is, from 1.
+    /// Which of its harvester's postings it is, from 1.
     pub number: u32,
     /// The stem that was cut.
     pub stem: Arc<Stem>,

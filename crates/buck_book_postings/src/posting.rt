@@ -16,12 +16,12 @@ pub const MOST_POSTINGS: u32 = 1_000_000;
 pub struct Demand {
     /// Number of the harvester that put them in force, 1 to 64.
     pub harvester: u32,
-    /// Which of its harvester's calls it is, from 1.
+    /// Which of its harvester's postings it is, from 1.
     pub number: u32,
     /// Version in force before it, from 0; the next one begins after it.
     pub version: u32,
-    /// The target of each class, a number of logs, in force from here on for all logs since the first: assortment by
-    /// assortment, row by row. Each is 0 to 1,000,000 if the demand is valid.
+    /// The target of each class from here on, a number of logs, towards which all logs of the history count: assortment
+    /// by assortment, row by row. Each is 0 to 1,000,000 if the demand is valid.
     pub targets: Arc<Vec<u32>>,
 }
 

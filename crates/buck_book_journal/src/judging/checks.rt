@@ -89,7 +89,7 @@ fn check_content(sheet: &Sheet, posting: &Posting, at: usize) -> Result<(), Repl
     }
 }
 
-/// Who a posting is of, which of its harvester's calls it is, and its version.
+/// Who a posting is of, which of its harvester's postings it is, and its version.
 fn call_of(posting: &Posting) -> (u32, u32, u32)
     ensures harvester { result.0 ≡ harvester_of posting.now }
     ensures number { result.1 ≡ number_of posting.now }

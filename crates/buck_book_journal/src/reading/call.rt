@@ -1,6 +1,6 @@
 //! What the first item of a posting says.
 
-/// Who added a posting, which of its harvester's calls it is, and the version in force before it.
+/// Who added a posting, which of its harvester's postings it is, and the version in force before it.
 #[derive(Clone, Copy)]
 pub(crate) struct Call {
     pub harvester: u32,
