@@ -2,7 +2,6 @@
 use crate::place::{Ending, run_words};
 use std::alloc::Global;
 use std::io::ErrorKind;
-use std::str;
 use std::sync::Wait;
 use std::test::Fail;
 use std::thread::Threads;
@@ -310,23 +309,6 @@ const EXPLAINED: [Row; 14] = [
     ("fleet apt - --journal -", 1, "stm 1 fault 1 15\n", "apt "),
 ];
 
-/// Words, and what their reports have: after the stem the last class is over its target, and all others are under theirs.
-const RULES: [(&str, &str); 7] = [
-    ("fleet apt stm", "\nCLASS 0 1 1 1 1 800 800\n"),
-    ("fleet --rule steady apt stm", "\nCLASS 0 1 1 1 1 800 800\n"),
-    ("fleet apt --rule linear stm", "\nCLASS 0 1 1 1 1 800 500\n"),
-    ("fleet apt stm --rule=step", "\nCLASS 0 1 1 1 1 800 400\n"),
-    ("fleet --rule root apt stm", "\nCLASS 0 1 1 1 1 800 629\n"),
-    (
-        "fleet apt stm --rule=step --limit 0100",
-        "\nCLASS 0 1 1 1 1 800 720\n",
-    ),
-    (
-        "fleet apt stm --rule=step --period=2",
-        "\nCLASS 0 1 1 1 1 800 800\n",
-    ),
-];
-
 /// What is said of `bad`.
 const BAD: &str = "bad, line 1: kind of file (1 2): \"BAD\", expected STM\n";
 
@@ -510,31 +492,6 @@ fn runs_of_words(rt: HostRuntime) -> Result<(), Fail> {
         let wrong = wrong_run(&rt, rt.alloc(), rows)?.unwrap_or("none");
         assert!(rt; wrong == "none", "{wrong}");
     }
-    Ok(())
-}
-
-/// The first line whose report has another last class, if there is one.
-fn wrong_rule<T: Threads + Wait + Sync>(
-    rt: &T,
-    alloc: Global,
-) -> Result<Option<&'static str>, Fail> {
-    for (line, class) in RULES {
-        let ending = run_line(rt, alloc, line)?;
-        let is_right = match str::from_utf8(ending.output.as_slice()) {
-            Ok(report) => report.contains(class),
-            Err(_) => false,
-        };
-        if !is_right {
-            return Ok(Some(line));
-        }
-    }
-    Ok(None)
-}
-
-#[test]
-fn rules_by_their_words(rt: HostRuntime) -> Result<(), Fail> {
-    let wrong = wrong_rule(&rt, rt.alloc())?.unwrap_or("none");
-    assert!(rt; wrong == "none", "{wrong}");
     Ok(())
 }
 
