@@ -25,6 +25,7 @@ mod slot;
 mod writing;
 
 pub use bytes::reading::{items, number, numbers, pieces, pieces_at, wide};
+pub use bytes::white::is_white;
 pub use checking::{check, rules, table};
 pub use described::{Count, Described, Level, Order};
 pub use fault::RecordFault;

@@ -4,8 +4,6 @@
 //! disk. [`serve_work`] is what it does once it knows the [`Work`].
 #![tactic(auto)]
 
-mod commands;
-mod help;
 mod inputs;
 mod known;
 mod notes;

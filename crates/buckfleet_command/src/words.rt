@@ -2,12 +2,12 @@
 ghost use Rattle.std.specs.Prelude.{◌≡◌, ◌<◌, ◌≤◌, IfOk, IfSome, vec_len};
 ghost use Rattle.buckfleet_command.specs.Words.{table_name};
 
-use crate::commands::{PROGRAM, mistake, program};
 use crate::inputs::DASH;
 use crate::subject::Subject;
 use crate::working::Work;
 use buck_record::Memory;
 use buck_rule::NamedRule;
+use buckfleet_command_line::{PROGRAM, mistake, program};
 use buckfleet_engine::{BuckTask, FleetTask, Order, Settings, Task};
 use buckfleet_engine_cross_check::{CheckTask, CrossCheck};
 use buckfleet_engine_page::{Shown, Table, ViewTask};

@@ -1,10 +1,10 @@
 //! The lines of the input, each read to its end and no further.
 ghost use Rattle.std.specs.Prelude.{◌≡◌, ◌<◌, ◌≤◌, ◌+◌, ◌∷◌, ◌++◌, [], length, take, IfOk, vec_capacity};
 ghost use Rattle.std.specs.Option.{option_map};
-ghost use Rattle.buck_record.specs.bytes.White.{is_white};
 ghost use Rattle.buckfleet_live.specs.Lines.{is_finished, last_byte, longest_line};
 ghost use Rattle.buckfleet_live.specs.inner.Reading.{IsRead, ReadsByte, held_line};
 
+use buck_record::is_white;
 use std::io;
 
 /// The most bytes that a line may have before its line feed.
@@ -53,12 +53,6 @@ pub(crate) fn read_bytes<R: io::Read>(input: &mut R, line: &mut Vec<u8>) -> io::
         }
     }
     Err(io::Error::from(io::ErrorKind::Other))
-}
-
-fn is_white(byte: u8) -> bool
-    ensures { result ≡ is_white byte }
-{
-    byte == b' ' || byte == b'\t' || byte == b'\n' || byte == b'\r'
 }
 
 fn last_byte(bytes: &[u8]) -> Option<u8>

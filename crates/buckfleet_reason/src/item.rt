@@ -2,7 +2,7 @@
 ghost use Rattle.std.specs.Prelude.{◌<◌, length, IfSome};
 ghost use Rattle.std.specs.Iterator.{at_most};
 
-use buck_record::{Slot, number};
+use buck_record::{Slot, is_white, number};
 
 /// The number and the kind of an item.
 #[derive(Clone, Copy, Debug, PartialEq, Eq)]
@@ -26,10 +26,6 @@ impl Key {
     pub fn is(self, slot: Slot) -> bool {
         self.number == slot.number && self.kind == slot.kind
     }
-}
-
-fn is_white(byte: u8) -> bool {
-    byte == b' ' || byte == b'\t' || byte == b'\n' || byte == b'\r'
 }
 
 /// A word, and its place in its file.

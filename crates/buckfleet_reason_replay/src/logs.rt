@@ -1,7 +1,7 @@
 //! Logs that can't be cut from their stem.
 use buck_apt::{Assortment, Instruction};
 use buck_dp_own_logs::{Reason, reason_of};
-use buck_stem::Stem;
+use buck_stem::{Stem, slots};
 use buck_value::Log;
 use std::fmt;
 
@@ -35,7 +35,7 @@ pub(crate) struct WrongLog<'a> {
 }
 
 /// The greatest grade.
-const GRADES: u8 = 8;
+const GREATEST: u8 = slots::GRADES.high as u8;
 
 impl WrongLog<'_> {
     /// Where its length ends.
@@ -56,7 +56,7 @@ impl WrongLog<'_> {
     /// The least grade of it that its assortment doesn't take; 0 if it takes all.
     fn grade(&self, assortment: &Assortment) -> u8 {
         let mut rest = self.stem.grades_between(self.log.start, self.top());
-        for grade in 1..GRADES + 1 {
+        for grade in 1..GREATEST + 1 {
             if rest % 2 == 1 && !assortment.grades().contains(&grade) {
                 return grade;
             }

@@ -3,7 +3,7 @@ ghost use Rattle.std.specs.Prelude.{◌≡◌};
 ghost use Rattle.buck_record.specs.bytes.White.{is_white, trim_start, trim_end, trim};
 
 /// Whether the byte is a space, a tab, a line feed or a carriage return.
-pub(crate) fn is_white(byte: u8) -> bool
+pub fn is_white(byte: u8) -> bool
     ensures { result ≡ is_white byte }
 {
     byte == b' ' || byte == b'\t' || byte == b'\n' || byte == b'\r'

@@ -11,7 +11,7 @@ use clap::{Arg, ArgAction, Command, Error, value_parser};
 use std::alloc::Global;
 
 /// The name of the program.
-pub(crate) const PROGRAM: &str = "buckfleet";
+pub const PROGRAM: &str = "buckfleet";
 
 /// What a command takes after its name.
 #[derive(Clone, Copy)]
@@ -280,7 +280,7 @@ fn command<'a>(alloc: Global, named: &Named) -> Result<Command<'a>, Error> {
 }
 
 /// The program with its commands.
-pub(crate) fn program<'a>(alloc: Global) -> Result<Command<'a>, Error> {
+pub fn program<'a>(alloc: Global) -> Result<Command<'a>, Error> {
     let mut program = Command::new(alloc, PROGRAM)
         .version(help::version())
         .about(help::PROGRAM)
@@ -293,13 +293,13 @@ pub(crate) fn program<'a>(alloc: Global) -> Result<Command<'a>, Error> {
 }
 
 /// What the program can be asked for, as help.
-pub(crate) fn help_text(alloc: Global) -> Result<String, Error> {
+pub fn help_text(alloc: Global) -> Result<String, Error> {
     Ok(program(alloc)?.render_help()?)
 }
 
 /// What is wrong with the words of a command, in the form of what `clap` finds: with the command's usage, or that of
 /// the program if no command has the name.
-pub(crate) fn mistake(alloc: Global, name: &str, message: &str) -> Result<Error, Error> {
+pub fn mistake(alloc: Global, name: &str, message: &str) -> Result<Error, Error> {
     let mut command = match COMMANDS.iter().find(|named| named.name == name) {
         Some(named) => {
             let whole = format!(in alloc; "{PROGRAM} {name}")?;
