@@ -13,7 +13,8 @@ use Rattle.buck_rule.specs.declared.named.NamedRule.{NamedRule}
 use Rattle.buckfleet_engine_files.specs.Faults.{fault_line, memory_line, status_of}
 use Rattle.buckfleet_engine_files.specs.Reading.{ReadsApt}
 use Rattle.buckfleet_engine_files.specs.Lent.{OfWriter}
-use Rattle.buckfleet_engine.specs.fleet.Running.{AnswersFleet, IsFleetRun, IsHarvest, IsInOrder}
+use Rattle.buckfleet_engine.specs.fleet.Running.{AnswersFleet, IsFleetRun, IsInOrder}
+use Rattle.buckfleet_engine_input.specs.Harvest.{IsHarvest}
 use Rattle.buck_c_calls.specs.declared.turns.Texts.{Texts}
 use Rattle.buck_c_calls.specs.Room.{IsPutAs}
 use Rattle.buck_c_calls.specs.Turns.{ArePut, AreRefused, AreTexts, AreUsed, IsTurned}

@@ -1,7 +1,6 @@
 pub mod BarLemmas
 pub mod Harvested
 pub mod Harvests
-pub mod Lists
 pub mod Owned
 pub mod Parts
 pub mod Runs

@@ -9,20 +9,12 @@ use Rattle.buckfleet_engine_files.specs.declared.fault.EngineFault.TheVariants.{
 use Rattle.buckfleet_engine.specs.declared.fleet.serving.Order.{Order}
 use Rattle.buckfleet_engine.specs.declared.fleet.serving.Order.TheVariants.{AtOnce, InTurn}
 use Rattle.buckfleet_engine_files.specs.Reading.{ReadsApt}
-use Rattle.buckfleet_engine.specs.fleet.Running.{AnswersFleet, AreNoSeats, IsFleetFault, IsFleetRun, IsFullInOrder, IsHarvest, IsInOrder, WroteAll, WroteSome}
+use Rattle.buckfleet_engine.specs.fleet.Running.{AnswersFleet, IsFleetRun, IsFullInOrder, IsInOrder, WroteAll, WroteSome}
+use Rattle.buckfleet_engine_input.specs.Harvest.{AreNoSeats, IsFleetFault, IsHarvest}
 use Rattle.buckfleet_engine_files.specs.Lent.{OfWriter}
 use Rattle.buckfleet_engine.specs.inner.Fleet.{AreWritten}
-use Rattle.buckfleet_engine_files.proofs.Runs.{IsNoWrite, file_fault, no_answer}
-
--- the same of a fleet
-pub fleet_fault : (apt : Option (List ℕ)) (stms : List (Option (List ℕ))) (fault : EngineFault)
-    → IsFleetFault apt stms fault → IsNoWrite fault
-fleet_fault apt stms fault (inl seats) = subst IsNoWrite (sym seats.1) tt
-fleet_fault apt stms fault (inr (inl a)) = file_fault _ _ _ _ fault (λ why. tt) a
-fleet_fault apt stms fault (inr (inr (accepted, inl list))) = file_fault _ _ _ _ fault (λ why. tt) list.is_fault
-fleet_fault apt stms fault (inr (inr (accepted, inr (all, inl full)))) = subst IsNoWrite (sym full) tt
-fleet_fault apt stms fault (inr (inr (accepted, inr (all, inr (inl memory))))) = subst IsNoWrite (sym memory) tt
-fleet_fault apt stms fault (inr (inr (accepted, inr (all, inr (inr close))))) = subst IsNoWrite (sym close.1) tt
+use Rattle.buckfleet_engine_files.proofs.Runs.{no_answer}
+use Rattle.buckfleet_engine_input.proofs.Lists.{fleet_fault}
 
 -- nothing is written if there is no history
 pub no_texts : (reads : ReadsApt) (order : Order) (ByRule : HistoryParts → Type 0) (apt : Option (List ℕ))

@@ -7,16 +7,12 @@ use Rattle.buckfleet_engine_files.specs.declared.fault.EngineFault.{EngineFault}
 use Rattle.buckfleet_engine.specs.declared.fleet.serving.FleetTask.{FleetTask}
 use Rattle.buckfleet_engine.specs.declared.fleet.serving.Order.{Order}
 use Rattle.buckfleet_engine_files.specs.Lent.{of_made}
-use Rattle.buckfleet_engine.specs.fleet.Running.{AreNoSeats, IsFleetRun}
+use Rattle.buckfleet_engine.specs.fleet.Running.{IsFleetRun}
+use Rattle.buckfleet_engine_input.specs.Harvest.{AreNoSeats}
 use Rattle.buckfleet_engine.specs.fleet.Serving.{RunsFleet, RunsInputs}
 use Rattle.buckfleet_engine_files.specs.Opening.{AnswersInputs, MakesJournal}
 use Rattle.buckfleet_engine_files.specs.Reading.{ReadsApt, apt_with}
 use Rattle.buckfleet_engine_files.specs.Ruled.{FollowsRule}
-
--- as many seats as files
-pub of_files : {F : Type 0} (held : F → Option (List ℕ)) (files : List F) → AreNoSeats (length (map held files))
-    → AreNoSeats (length files)
-of_files held files none = subst AreNoSeats (length-map files held) none
 
 -- the journal goes into the file that was made for it
 inputs_run : {O F M : Type 0} (makes : O → List ℕ → Option M → O → Type 0) (held : F → Option (List ℕ))

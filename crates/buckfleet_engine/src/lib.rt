@@ -6,8 +6,8 @@ mod run;
 
 pub use buck_apt::Settings;
 pub use buckfleet_engine_files::{EngineFault, status, write_fault};
+pub use buckfleet_engine_input::{Input, read_input};
 pub use buckfleet_engine_text::{TextFault, buck_text, degree, report_text};
-pub use fleet::lists::{Input, read_input};
 pub use fleet::running::run_fleet_files;
 pub use fleet::serving::{FleetTask, Order, serve_fleet};
 pub use fleet::turning::run_in_turn;

@@ -13,10 +13,10 @@ use Rattle.buck_stem.specs.declared.stem.Stem.{Stem}
 use Rattle.buck_fleet_round_robin.specs.Turn.{stems_in_all}
 use Rattle.buckfleet_engine_files.specs.declared.fault.EngineFault.{EngineFault}
 use Rattle.buckfleet_engine_files.specs.declared.fault.EngineFault.TheVariants.{Full, Seats}
-use Rattle.buckfleet_engine.specs.declared.fleet.lists.Input.{Input}
-use Rattle.buckfleet_engine.specs.fleet.Running.{AreListsOf, AreNoSeats, HaveTooMany, IsFleetFault}
+use Rattle.buckfleet_engine_input.specs.declared.lists.Input.{Input}
+use Rattle.buckfleet_engine_input.specs.Harvest.{AreListsOf, AreNoSeats, HaveTooMany, IsFleetFault}
 use Rattle.buckfleet_engine_files.specs.Reading.{Says}
-use Rattle.buckfleet_engine.proofs.Lists.{accepted, too_many}
+use Rattle.buckfleet_engine_input.proofs.Lists.{accepted, too_many}
 use Rattle.buckfleet_terms_files.specs.declared.fault.TermsFault.{TermsFault}
 use Rattle.buckfleet_terms_files.specs.declared.fault.TermsFault.TheVariants.{Run}
 use Rattle.buckfleet_terms_files.specs.Reading.{AnswersMore, IsTargetsFileFault}

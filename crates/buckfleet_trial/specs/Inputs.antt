@@ -12,7 +12,7 @@ use Rattle.buck_book_postings.specs.declared.posting.TheConstants.{MOST_POSTINGS
 use Rattle.buck_fleet_round_robin.specs.Turn.{stems_in_all}
 use Rattle.buckfleet_engine_files.specs.declared.fault.EngineFault.{EngineFault}
 use Rattle.buckfleet_engine_files.specs.declared.fault.EngineFault.TheVariants.{Full, Seats}
-use Rattle.buckfleet_engine.specs.fleet.Running.{AreListsOf, AreNoSeats, HaveTooMany, IsFleetFault}
+use Rattle.buckfleet_engine_input.specs.Harvest.{AreListsOf, AreNoSeats, HaveTooMany, IsFleetFault}
 use Rattle.buckfleet_engine_files.specs.Opening.{AnswersInputs}
 use Rattle.buckfleet_engine_files.specs.Reading.{Says}
 use Rattle.buckfleet_terms_files.specs.declared.fault.TermsFault.{TermsFault}

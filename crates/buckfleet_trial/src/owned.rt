@@ -34,10 +34,10 @@ use buck_record::Memory;
 use buck_rule::NamedRule;
 use buck_stem::Stem;
 use buck_value::Sheet;
-use buckfleet_engine::Input;
 use buckfleet_engine_files::{
     EngineFault, Nobody, Onlooker, Open, SeveralThreads, number_of_threads, write_text,
 };
+use buckfleet_engine_input::Input;
 use buckfleet_proceeds::appraise;
 use buckfleet_terms_files::{TermsFault, open_last, read_own};
 use buckfleet_trial_draws::order_from;

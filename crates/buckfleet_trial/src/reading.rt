@@ -5,15 +5,15 @@ ghost use Rattle.std.specs.Result.{IsErrAnd};
 ghost use Rattle.buckfleet_engine_files.specs.declared.fault.EngineFault.TheVariants.{Full, Seats};
 ghost use Rattle.buck_fleet_round_robin.specs.Turn.{stems_in_all};
 ghost use Rattle.buck_book_postings.specs.declared.posting.TheConstants.{MOST_POSTINGS};
-ghost use Rattle.buckfleet_engine.specs.fleet.Running.{AreNoSeats, HaveTooMany, IsFleetFault};
+ghost use Rattle.buckfleet_engine_input.specs.Harvest.{AreNoSeats, HaveTooMany, IsFleetFault};
 ghost use Rattle.buckfleet_terms_files.specs.Reading.{IsTargetsFileFault};
 ghost use Rattle.buckfleet_trial.specs.Inputs.{AnswersFiles, HasWanted, IsInputFault, SaysInput, held_with};
 ghost use Rattle.buckfleet_trial.specs.inner.Running.{in_terms};
 
 use buck_book_postings::MOST_POSTINGS;
 use buck_stem::Stem;
-use buckfleet_engine::{Input, read_input};
 use buckfleet_engine_files::{EngineFault, Open, Workers, open_inputs};
+use buckfleet_engine_input::{Input, read_input};
 use buckfleet_terms_files::{TermsFault, open_more, read_wanted};
 use std::alloc::Global;
 use std::io;

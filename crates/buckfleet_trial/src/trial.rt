@@ -16,10 +16,10 @@ use crate::reading::{Opened, of_run, read_files};
 use crate::table::{put_first, put_line};
 use crate::task::TrialTask;
 use buck_record::Memory;
-use buckfleet_engine::Input;
 use buckfleet_engine_files::{
     EngineFault, OneThread, SeveralThreads, number_of_threads, write_text,
 };
+use buckfleet_engine_input::Input;
 use buckfleet_terms_files::TermsFault;
 use buckfleet_trial_draws::{Draws, order_from, starts_of};
 use buckfleet_trial_sweep::{Combination, run_line};

@@ -27,10 +27,10 @@ use buck_apt::Instruction;
 use buck_record::Memory;
 use buck_rule::NamedRule;
 use buck_stem::Stem;
-use buckfleet_engine::Input;
 use buckfleet_engine_files::{
     EngineFault, OneThread, SeveralThreads, number_of_threads, write_text,
 };
+use buckfleet_engine_input::Input;
 use buckfleet_terms_files::TermsFault;
 use std::alloc::Global;
 use std::cmp::Ordering;

@@ -11,11 +11,10 @@ use Rattle.buck_fleet_round_robin.specs.Turn.{StemList}
 use Rattle.buckfleet_engine_files.specs.declared.fault.EngineFault.{EngineFault}
 use Rattle.buckfleet_engine_files.specs.declared.fault.EngineFault.TheVariants.{Full, Seats, Write}
 use Rattle.buckfleet_engine_files.specs.Reading.{Says}
-use Rattle.buckfleet_engine.specs.fleet.Running.{AreListsOf, AreNoSeats, IsFleetFault}
+use Rattle.buckfleet_engine_input.specs.Harvest.{AreListsOf, AreNoSeats, IsFleetFault}
 use Rattle.buckfleet_engine_files.specs.Written.{AppendsSome, WritesText}
-use Rattle.buckfleet_engine.proofs.Lists.{accepted, too_many}
+use Rattle.buckfleet_engine_input.proofs.Lists.{accepted, too_many, fleet_fault}
 use Rattle.buckfleet_engine_files.proofs.Numbers.{says_with}
-use Rattle.buckfleet_engine.proofs.Runs.{fleet_fault}
 use Rattle.buckfleet_engine_files.proofs.Runs.{no_answer}
 use Rattle.buckfleet_trial_sweep.proofs.Tables.{lines_mapped}
 

@@ -8,7 +8,7 @@ use Rattle.buck_fleet_round_robin.specs.Turn.{HasCutInTurn, StemList, stems_in_a
 use Rattle.buck_rule.specs.declared.named.NamedRule.{NamedRule}
 use Rattle.buckfleet_engine_files.specs.declared.fault.EngineFault.{EngineFault}
 use Rattle.buckfleet_engine_files.specs.declared.fault.EngineFault.TheVariants.{Full}
-use Rattle.buckfleet_engine.specs.fleet.Running.{AreFirsts, IsCuttingFault}
+use Rattle.buckfleet_engine_input.specs.Harvest.{AreFirsts, IsCuttingFault}
 use Rattle.buckfleet_engine_files.specs.Ruled.{FollowsRule}
 use Rattle.buckfleet_trial_sweep.specs.declared.combination.Combination.{Combination}
 use Rattle.buckfleet_trial_sweep.specs.Table.{IsLine}

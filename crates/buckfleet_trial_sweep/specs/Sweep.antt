@@ -7,7 +7,7 @@ use Rattle.buck_fleet_round_robin.specs.Turn.{AreInTurn}
 use Rattle.buckfleet_engine_files.specs.declared.fault.EngineFault.{EngineFault}
 use Rattle.buckfleet_engine_files.specs.declared.fault.EngineFault.TheVariants.{Full, Seats}
 use Rattle.buckfleet_engine_files.specs.Reading.{Says, apt_with}
-use Rattle.buckfleet_engine.specs.fleet.Running.{AreNoSeats, HaveTooMany, IsFleetFault, IsHarvest}
+use Rattle.buckfleet_engine_input.specs.Harvest.{AreNoSeats, HaveTooMany, IsFleetFault, IsHarvest}
 use Rattle.buckfleet_engine_files.specs.Ruled.{FollowsRule}
 use Rattle.buckfleet_engine_files.specs.Written.{WritesText}
 use Rattle.buckfleet_trial_sweep.specs.declared.combination.Combination.{Combination}

@@ -2,7 +2,7 @@
 ghost use Rattle.std.specs.Prelude.{◌≡◌, ◌<◌, ◌≤◌, IfOk, IfErr, length, map};
 ghost use Rattle.buck_book_postings.specs.History.{IsLawful};
 ghost use Rattle.buck_book_journal.specs.judging.Replay.{history_of};
-ghost use Rattle.buckfleet_engine.specs.fleet.Running.{AreFirsts};
+ghost use Rattle.buckfleet_engine_input.specs.Harvest.{AreFirsts};
 ghost use Rattle.buckfleet_trial_sweep.specs.Runs.{HasCut, IsRunLine, IsStop};
 ghost use Rattle.buckfleet_trial_sweep.specs.inner.Lines.{IsPart};
 ghost use Rattle.buck_book_postings.specs.declared.posting.TheConstants.{MOST_POSTINGS};
@@ -17,8 +17,8 @@ use buck_record::Memory;
 use buck_rule::{NamedRule, Rule, Standing};
 use buck_stem::Stem;
 use buck_value::Sheet;
-use buckfleet_engine::Input;
 use buckfleet_engine_files::EngineFault;
+use buckfleet_engine_input::Input;
 use std::alloc::Global;
 use std::sync::Arc;
 use std::thread;

@@ -3,7 +3,7 @@ ghost use Rattle.std.specs.Prelude.{◌≡◌, ◌≢◌, map, drop, IfErr};
 ghost use Rattle.buckfleet_engine_files.specs.declared.fault.EngineFault.TheVariants.{Seats, Write};
 ghost use Rattle.buckfleet_engine_files.specs.Reading.{IfStopped};
 ghost use Rattle.buckfleet_engine_files.specs.Written.{WritesText};
-ghost use Rattle.buckfleet_engine.specs.fleet.Running.{IsCuttingFault};
+ghost use Rattle.buckfleet_engine_input.specs.Harvest.{IsCuttingFault};
 ghost use Rattle.buckfleet_trial_sweep.specs.Sweep.{IsSweepRun};
 ghost use Rattle.buckfleet_trial_sweep.specs.inner.Lines.{AnswersTable, IsPart};
 
@@ -11,10 +11,10 @@ use crate::combination::Combination;
 use crate::cutting::{lines_in_parts, lines_of};
 use crate::serving::SweepTask;
 use crate::table::put_head;
-use buckfleet_engine::{Input, read_input};
 use buckfleet_engine_files::{
     EngineFault, OneThread, Onlooker, SeveralThreads, number_of_threads, write_text,
 };
+use buckfleet_engine_input::{Input, read_input};
 use std::alloc::Global;
 use std::io;
 use std::thread::Threads;

@@ -6,7 +6,8 @@ use Rattle.buckfleet_engine_files.specs.declared.fault.EngineFault.{EngineFault}
 use Rattle.buckfleet_engine.specs.declared.fleet.serving.Order.{Order}
 use Rattle.buckfleet_engine_files.specs.Reading.{ReadsApt}
 use Rattle.buckfleet_engine_files.specs.Lent.{OfWriter}
-use Rattle.buckfleet_engine.specs.fleet.Running.{AreFirsts, IsFleetRun}
+use Rattle.buckfleet_engine.specs.fleet.Running.{IsFleetRun}
+use Rattle.buckfleet_engine_input.specs.Harvest.{AreFirsts}
 use Rattle.buckfleet_engine_text.specs.Report.{ending_of, report_of}
 
 -- no run that ended well wrote what is the report of no such history

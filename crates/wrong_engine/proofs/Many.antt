@@ -16,7 +16,8 @@ use Rattle.buckfleet_engine.specs.declared.fleet.serving.Order.TheVariants.{InTu
 use Rattle.buckfleet_engine_files.specs.Reading.{ReadsApt}
 use Rattle.buckfleet_engine_files.specs.Lent.{OfWriter}
 use Rattle.buckfleet_engine_files.specs.Listed.{stems_cut_by}
-use Rattle.buckfleet_engine.specs.fleet.Running.{HaveTooMany, IsFleetRun}
+use Rattle.buckfleet_engine.specs.fleet.Running.{IsFleetRun}
+use Rattle.buckfleet_engine_input.specs.Harvest.{HaveTooMany}
 
 -- no harvester has more postings than there are
 replies_low : (h p : ℕ) (xs : List Posting) → length (replies_from h p xs) ≤ length xs

@@ -6,7 +6,7 @@ ghost use Rattle.buck_stem.specs.file.Stm.{stm_of};
 ghost use Rattle.buck_book_postings.specs.History.{HistoryParts};
 ghost use Rattle.buck_book_postings.specs.Pricing.{AreSheetsBy};
 ghost use Rattle.buck_fleet_round_robin.specs.Turn.{AreInTurn};
-ghost use Rattle.buckfleet_engine.specs.fleet.Running.{AreFirsts};
+ghost use Rattle.buckfleet_engine_input.specs.Harvest.{AreFirsts};
 ghost use Rattle.buckfleet_engine_text.specs.Report.{ending_of, report_of};
 
 use crate::views::Calls;

@@ -6,7 +6,7 @@ use Rattle.buck_stem.specs.file.Stm.{stm_of}
 use Rattle.buckfleet_engine_files.specs.declared.fault.EngineFault.{EngineFault}
 use Rattle.buckfleet_engine_files.specs.declared.fault.EngineFault.TheVariants.{Full}
 use Rattle.buck_rule.specs.declared.named.NamedRule.{NamedRule}
-use Rattle.buckfleet_engine.specs.fleet.Running.{HaveTooMany}
+use Rattle.buckfleet_engine_input.specs.Harvest.{HaveTooMany}
 use Rattle.buckfleet_trial_sweep.specs.declared.combination.Combination.{Combination}
 use Rattle.buckfleet_trial_sweep.specs.Sweep.{IsLineOver, IsSweepRun, IsTable}
 use Rattle.buckfleet_trial_sweep.specs.Table.{head_line}

@@ -5,7 +5,7 @@ ghost use Rattle.buck_stem.specs.file.Stm.{stm_of};
 ghost use Rattle.buck_book_postings.specs.History.{HistoryParts};
 ghost use Rattle.buck_rule.specs.declared.named.NamedRule.TheVariants.{Steady, Step};
 ghost use Rattle.buckfleet_engine_files.specs.Ruled.{FollowsRule};
-ghost use Rattle.buckfleet_engine.specs.fleet.Running.{AreFirsts};
+ghost use Rattle.buckfleet_engine_input.specs.Harvest.{AreFirsts};
 ghost use Rattle.buckfleet_trial_sweep.specs.Sweep.{IsLineOver};
 ghost use Rattle.buckfleet_trial_sweep.specs.Table.{IsLine};
 ghost use Rattle.wrong_sweep.specs.Texts.{StandsIn, own_run};

@@ -12,7 +12,8 @@ use Rattle.buck_book_postings.specs.Replies.{stems_at}
 use Rattle.buckfleet_engine_files.specs.declared.fault.EngineFault.{EngineFault}
 use Rattle.buckfleet_engine_files.specs.declared.fault.EngineFault.TheVariants.{Write, Memory}
 use Rattle.buckfleet_engine_files.specs.Lent.{OfWriter}
-use Rattle.buckfleet_engine.specs.fleet.Running.{AreFirsts, WroteAll, WroteSome}
+use Rattle.buckfleet_engine.specs.fleet.Running.{WroteAll, WroteSome}
+use Rattle.buckfleet_engine_input.specs.Harvest.{AreFirsts}
 use Rattle.buckfleet_engine_files.specs.Listed.{stems_cut_by}
 use Rattle.buck_book_postings.specs.declared.posting.TheConstants.{MOST_POSTINGS}
 

@@ -3,7 +3,7 @@ ghost use Rattle.std.specs.Prelude.{◌≡◌, ◌<◌, ◌≤◌, length, IfOk,
 ghost use Rattle.buck_rule.specs.Stored.{AllAnswer};
 ghost use Rattle.buck_fleet.specs.Crew.{IsCrew, parts_of};
 ghost use Rattle.buck_fleet.specs.Closed.{IsOneHistory};
-ghost use Rattle.buckfleet_engine.specs.fleet.Running.{IsCuttingFault};
+ghost use Rattle.buckfleet_engine_input.specs.Harvest.{IsCuttingFault};
 ghost use Rattle.buckfleet_engine.specs.inner.Fleet.{HasCutLists};
 
 use buck_apt::Instruction;

@@ -7,15 +7,16 @@ ghost use Rattle.buckfleet_engine_files.specs.declared.fault.EngineFault.TheVari
 ghost use Rattle.buckfleet_engine.specs.declared.fleet.serving.Order.TheVariants.{AtOnce};
 ghost use Rattle.buckfleet_engine_files.specs.Reading.{IfStopped, apt_with};
 ghost use Rattle.buckfleet_engine_files.specs.Lent.{of_lent};
-ghost use Rattle.buckfleet_engine.specs.fleet.Running.{AreNoSeats, IsFleetFault, IsFleetRun, IsHarvest};
+ghost use Rattle.buckfleet_engine.specs.fleet.Running.{IsFleetRun};
+ghost use Rattle.buckfleet_engine_input.specs.Harvest.{AreNoSeats, IsFleetFault, IsHarvest};
 
 use crate::fleet::cutting::cut_lists;
-use crate::fleet::lists::{Input, number_of_stems, read_input_with};
 use crate::fleet::writing::{write_journal_and_report, write_report};
 use buck_apt::Settings;
 use buck_fleet::Closed;
 use buck_rule::{Rule, Standing};
 use buckfleet_engine_files::{EngineFault, Nobody, Onlooker, SeveralThreads};
+use buckfleet_engine_input::{Input, number_of_stems, read_input_with};
 use std::alloc::Global;
 use std::io;
 use std::sync::Wait;

@@ -10,11 +10,11 @@ ghost use Rattle.buckfleet_engine_files.specs.declared.fault.EngineFault.TheVari
 ghost use Rattle.buckfleet_engine.specs.declared.fleet.serving.Order.TheVariants.{InTurn};
 ghost use Rattle.buckfleet_engine_files.specs.Reading.{IfStopped, apt_with};
 ghost use Rattle.buckfleet_engine_files.specs.Lent.{of_lent};
-ghost use Rattle.buckfleet_engine.specs.fleet.Running.{AreNoSeats, HaveTooMany, IsCuttingFault, IsFleetFault, IsFleetRun, IsHarvest};
+ghost use Rattle.buckfleet_engine.specs.fleet.Running.{IsFleetRun};
+ghost use Rattle.buckfleet_engine_input.specs.Harvest.{AreNoSeats, HaveTooMany, IsCuttingFault, IsFleetFault, IsHarvest};
 ghost use Rattle.buckfleet_engine.specs.inner.Fleet.{HasCutLists};
 ghost use Rattle.buck_book_postings.specs.declared.posting.TheConstants.{MOST_POSTINGS};
 
-use crate::fleet::lists::{Input, number_of_stems, read_input_with};
 use crate::fleet::writing::{write_journal_and_report, write_report};
 use buck_apt::{Instruction, Settings};
 use buck_book_postings::{CutFault, Parts};
@@ -22,6 +22,7 @@ use buck_fleet_round_robin::cut_in_turn;
 use buck_rule::{Rule, Standing};
 use buck_stem::Stem;
 use buckfleet_engine_files::{EngineFault, Nobody, OneThread, Onlooker};
+use buckfleet_engine_input::{Input, number_of_stems, read_input_with};
 use std::alloc::Global;
 use std::io;
 use std::sync::Arc;

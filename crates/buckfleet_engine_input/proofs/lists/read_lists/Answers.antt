@@ -3,9 +3,9 @@ use Rattle.std.proofs.lemmas.List.{length-map}
 use Rattle.buck_stem.specs.file.Stm.{stm_of}
 use Rattle.buck_book_postings.specs.Replies.{stems_of}
 use Rattle.buckfleet_engine_files.specs.Reading.{Says}
-use Rattle.buckfleet_engine.proofs.Lists.{lists_more, memory_at, refused_at}
+use Rattle.buckfleet_engine_input.proofs.Lists.{lists_more, memory_at, refused_at}
 use Rattle.buckfleet_engine_files.proofs.Lists.{same_place, same_rest}
-use Rattle.buckfleet_engine.proofs.fleet.lists.read_lists.Goals as goal
+use Rattle.buckfleet_engine_input.proofs.lists.read_lists.Goals as goal
 
 pub returns-in-Err-clause-refused : goal.returns-in-Err-clause-refused
 returns-in-Err-clause-refused g c =

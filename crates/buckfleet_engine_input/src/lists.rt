@@ -6,7 +6,7 @@ ghost use Rattle.buck_stem.specs.file.Stm.{stm_of};
 ghost use Rattle.buck_book_postings.specs.Replies.{stems_of};
 ghost use Rattle.buckfleet_engine_files.specs.declared.fault.EngineFault.TheVariants.{Full, Seats};
 ghost use Rattle.buckfleet_engine_files.specs.Reading.{IfStopped, IsAccepted, IsStmFault, Says, apt_with};
-ghost use Rattle.buckfleet_engine.specs.fleet.Running.{AreListsOf, AreNoSeats, IsFleetFault, IsListFault};
+ghost use Rattle.buckfleet_engine_input.specs.Harvest.{AreListsOf, AreNoSeats, IsFleetFault, IsListFault};
 
 use buck_apt::{Instruction, Settings};
 use buck_stem::Stem;
@@ -43,7 +43,7 @@ fn stems_of_file<T: Workers, R: io::Read>(
 }
 
 /// The stems of all stem files, file by file: each is read, and refused if it must be, before the next.
-pub(crate) fn read_lists<T: Workers, R: io::Read>(
+fn read_lists<T: Workers, R: io::Read>(
     workers: &T,
     alloc: Global,
     stms: &mut [R],
@@ -90,7 +90,8 @@ pub struct Input {
 
 /// Reads an instruction file and stem files, if there are 1 to 64 stem files: else `Seats`, before anything is read.
 /// The instruction file is file 0, the k-th stem file is file k; each is read, and refused if it must be, before the
-/// next, as [`run_in_turn`](crate::run_in_turn) says. The onlooker of the workers is shown the instruction.
+/// next. `Read` comes if a reader fails or a file is longer than 67,108,864 bytes, `Apt` and `Stm` if the bytes of a
+/// file are refused, and `Memory` if an allocation failed. The onlooker of the workers is shown the instruction.
 pub fn read_input<T: Workers, R: io::Read>(
     workers: &T,
     alloc: Global,
@@ -118,7 +119,7 @@ pub fn read_input<T: Workers, R: io::Read>(
 
 /// [`read_input`], with a run's numbers in the place of the instruction's own, by which it is read and refused.
 #[tactic(auto, using(buckfleet_engine_files::proofs::Numbers::says_with))]
-pub(crate) fn read_input_with<T: Workers, R: io::Read>(
+pub fn read_input_with<T: Workers, R: io::Read>(
     workers: &T,
     alloc: Global,
     apt: &mut R,
@@ -146,8 +147,8 @@ pub(crate) fn read_input_with<T: Workers, R: io::Read>(
     })
 }
 
-/// How many stems stand in all lists.
-pub(crate) fn number_of_stems(lists: &[Vec<Arc<Stem>>]) -> usize {
+/// How many stems stand in all lists together.
+pub fn number_of_stems(lists: &[Vec<Arc<Stem>>]) -> usize {
     let mut number = 0usize;
     for list in lists {
         number = number.saturating_add(list.len());

@@ -1,6 +1,6 @@
 use Rattle.std.proofs.Common.{◌≡◌, length, map, drop}
-use Rattle.buckfleet_engine.specs.fleet.Running.{AreListsOf}
-use Rattle.buckfleet_engine.proofs.fleet.lists.read_lists.Given as goal
+use Rattle.buckfleet_engine_input.specs.Harvest.{AreListsOf}
+use Rattle.buckfleet_engine_input.proofs.lists.read_lists.Given as goal
 
 abbrev pub invariant-loop-k : goal.invariant-loop-k
 invariant-loop-k g l = record {

@@ -17,8 +17,9 @@ use Rattle.buckfleet_engine_files.specs.declared.fault.EngineFault.{EngineFault}
 use Rattle.buck_fleet_round_robin.specs.Turn.{stems_in_all}
 use Rattle.buckfleet_engine_files.specs.declared.fault.EngineFault.TheVariants.{Full, Memory}
 use Rattle.buckfleet_engine_files.specs.Reading.{IsAccepted, IsStmFault, Says}
-use Rattle.buckfleet_engine.specs.fleet.Running.{AreListsOf, HaveTooMany, IsCuttingFault, IsFleetFault, IsListFault}
+use Rattle.buckfleet_engine_input.specs.Harvest.{AreListsOf, AreNoSeats, HaveTooMany, IsCuttingFault, IsFleetFault, IsListFault}
 use Rattle.buckfleet_engine_files.specs.Listed.{AreAccepted}
+use Rattle.buckfleet_engine_files.proofs.Runs.{IsNoWrite, file_fault}
 
 -- the stems of a list before the last, and of the last
 stems_before : (lists : List (Vec (Arc Stem Global) Global)) (list : Vec (Arc Stem Global) Global) (j : ℕ)
@@ -116,3 +117,18 @@ too_many stms lists n (Err e) long all made full = λ is. record {
   stms_say = λ k lt. made k (omega (arith, lt, all));
   many = omega (arith, full is, stems_all lists);
 }
+
+-- what is wrong with the files of a fleet is no write fault
+pub fleet_fault : (apt : Option (List ℕ)) (stms : List (Option (List ℕ))) (fault : EngineFault)
+    → IsFleetFault apt stms fault → IsNoWrite fault
+fleet_fault apt stms fault (inl seats) = subst IsNoWrite (sym seats.1) tt
+fleet_fault apt stms fault (inr (inl a)) = file_fault _ _ _ _ fault (λ why. tt) a
+fleet_fault apt stms fault (inr (inr (accepted, inl list))) = file_fault _ _ _ _ fault (λ why. tt) list.is_fault
+fleet_fault apt stms fault (inr (inr (accepted, inr (all, inl full)))) = subst IsNoWrite (sym full) tt
+fleet_fault apt stms fault (inr (inr (accepted, inr (all, inr (inl memory))))) = subst IsNoWrite (sym memory) tt
+fleet_fault apt stms fault (inr (inr (accepted, inr (all, inr (inr close))))) = subst IsNoWrite (sym close.1) tt
+
+-- as many seats as files
+pub of_files : {F : Type 0} (held : F → Option (List ℕ)) (files : List F) → AreNoSeats (length (map held files))
+    → AreNoSeats (length files)
+of_files held files none = subst AreNoSeats (length-map files held) none
