@@ -1,16 +1,17 @@
 -- Lines of items as they are written, and the items that are read of them.
-use Rattle.std.proofs.Common.{◌≡◌, ℕ, suc, ◌+◌, ◌<◌, ◌≤◌, ◌^◌, true, false, List, [], ◌∷◌, ◌++◌, All, Some, get_or, length, take, drop, refl, ap, ◌∙◌, subst, arith, append_assoc}
-use Rattle.std.specs.List.{AllByRecursion, slice_split, onto_first, position_or_len}
+use Rattle.std.proofs.Common.{◌≡◌, ℕ, ◌+◌, ◌<◌, ◌≤◌, ◌^◌, true, false, List, [], ◌∷◌, ◌++◌, All, Some, get_or, length, refl, ap, ◌∙◌, subst, arith, append_assoc}
+use Rattle.std.specs.List.{slice_split, onto_first, position_or_len}
 use Rattle.std.specs.Char.{is_ascii_digit}
 use Rattle.std.specs.Fmt.{decimal}
 use Rattle.std.proofs.lemmas.Grind.{common_steps}
 use Rattle.std.proofs.lemmas.Bool.{cond-true, lt-ltb}
 use Rattle.std.proofs.lemmas.Bool.Decides.{nat_tests}
 use Rattle.std.proofs.lemmas.Fmt.{digits_decimal, decimal_nonempty}
-use Rattle.std.proofs.lemmas.List.{length-append}
-use Rattle.std.proofs.lemmas.List.Elements.{All-append, All-cons, recursion_from_All}
+use Rattle.std.proofs.Math.Seq.{get_or-append_seam, take-append_seam}
+use Rattle.std.proofs.lemmas.List.{length-append, length_push, get_or_append_left, drop_at}
+use Rattle.std.proofs.lemmas.List.Elements.{All-append, All-cons}
 use Rattle.std.proofs.lemmas.List.Splits.{slice_split_at, slice_split-cons_no}
-use Rattle.std.proofs.lemmas.List.Sums.{AllPass-from_list_all}
+use Rattle.std.proofs.lemmas.List.Sums.{AllPass-from_list_all, position_or_len_is}
 use Rattle.buck_record.specs.Item.{ItemParts}
 use Rattle.buck_record.specs.declared.slot.Slot.{Slot}
 use Rattle.buck_record.specs.bytes.White.{is_white, trim}
@@ -78,27 +79,19 @@ part_says : (part left : List ℕ) (item : ItemParts) (items : List ItemParts) �
 unfolding each_from
 part_says part left item items plain trimmed some is h = grind (arith, slice_split_at, cond-true, lt-ltb)
 
-one_past : (n x : ℕ) (xs : List ℕ)
-    → (take (1 + n) (x ∷ xs) ≡ x ∷ take n xs) × (drop (1 + n + 1) (x ∷ xs) ≡ drop (n + 1) xs)
-one_past n x xs =
-    let one : 1 + n ≡ suc n = omega arith in
-    let two : 1 + n + 1 ≡ suc (n + 1) = omega arith in (rw one refl, rw two refl)
-
 -- the first word of a text, and what is after it
-word_of : (xs : List ℕ) (w : ℕ) (ys : List ℕ) → is_white w ≡ true → AllByRecursion (λ b. is_white b ≡ false) xs
+word_of : (xs : List ℕ) (w : ℕ) (ys : List ℕ) → is_white w ≡ true → All (λ b. is_white b ≡ false) xs
     → (first_word (xs ++ w ∷ ys) ≡ xs) × (after_word (xs ++ w ∷ ys) ≡ ys)
 unfolding first_word after_word
-word_of [] w ys white h = rw white (refl, refl)
-word_of (x ∷ xs) w ys white h =
-    let more = word_of xs w ys white h.1 in
-    let n : ℕ = position_or_len is_white (xs ++ w ∷ ys) in (
-      rw h.0 ((one_past n x (xs ++ w ∷ ys)).0 ∙ ap (λ zs. x ∷ zs) more.0),
-      rw h.0 ((one_past n x (xs ++ w ∷ ys)).1 ∙ more.1),
-    )
+word_of xs w ys white dark =
+    let n : position_or_len is_white (xs ++ w ∷ ys) ≡ length xs =
+    position_or_len_is is_white (xs ++ w ∷ ys) (length xs) 0 (omega (arith, length-append xs (w ∷ ys)))
+    (λ k lt. rw (get_or_append_left xs (w ∷ ys) 0 k lt) (dark k 0 lt)) (λ _. rw (get_or-append_seam xs w ys 0) white) in
+    rw n (take-append_seam xs (w ∷ ys), rw append_assoc at (drop_at (xs ++ w ∷ []) ys (length xs + 1) (length_push xs w)))
 
 number_word : (n w : ℕ) (ys : List ℕ) → n < 2 ^ 64 → is_white w ≡ true
     → (first_word (decimal n ++ w ∷ ys) ≡ decimal n) × (after_word (decimal n ++ w ∷ ys) ≡ ys)
-number_word n w ys lt white = word_of (decimal n) w ys white (recursion_from_All _ (decimal n) (dark n lt))
+number_word n w ys lt white = word_of (decimal n) w ys white (dark n lt)
 
 -- what an item may say: no tilde, and no whitespace byte at its ends
 pub record IsSaid (rest : List ℕ) : Type 0 where

@@ -14,23 +14,18 @@ use Rattle.buck_record.specs.bytes.Record.{item_of, is_tilde, filled_parts, piec
 use Rattle.buck_record.specs.pass.Cursor.{HasItems, Joins}
 
 -- ---- the pieces
-onto : (x : ℕ) (parts more : List (List ℕ)) → 0 < length parts
-    → onto_first x (parts ++ more) ≡ onto_first x parts ++ more
-onto x [] more some = absurd (omega (arith, some))
-onto x (part ∷ parts) more some = refl
-
-one_more : (x : ℕ) (b : Bool) (whole parts more : List (List ℕ))
-    → whole ≡ parts ++ more → 0 < length parts
-    → cond b ([] ∷ whole) (onto_first x whole) ≡ cond b ([] ∷ parts) (onto_first x parts) ++ more
-one_more x true whole parts more is some = ap (λ ps. [] ∷ ps) is
-one_more x false whole parts more is some = ap (onto_first x) is ∙ onto x parts more some
+push : (x : ℕ) (b : Bool) (parts more : List (List ℕ)) → 0 < length parts
+    → cond b ([] ∷ (parts ++ more)) (onto_first x (parts ++ more)) ≡ cond b ([] ∷ parts) (onto_first x parts) ++ more
+push x true parts more some = refl
+push x false [] more some = absurd (omega arith)
+push x false (part ∷ parts) more some = refl
 
 split_both : (p : ℕ → Bool) (xs : List ℕ) (y : ℕ) (ys : List ℕ)
     → p y ≡ true → slice_split p (xs ++ y ∷ ys) ≡ slice_split p xs ++ slice_split p ys
 split_both p [] y ys e = slice_split-cons_yes p y ys e
 split_both p (x ∷ xs) y ys e =
-    one_more x (p x) (slice_split p (xs ++ y ∷ ys)) (slice_split p xs) (slice_split p ys) (split_both p xs y ys e)
-    (omega (arith, length-slice_split p xs))
+    rw (split_both p xs y ys e)
+    (push x (p x) (slice_split p xs) (slice_split p ys) (omega (arith, length-slice_split p xs)))
 
 pieces_both : (front back : List ℕ) (y : ℕ)
     → is_tilde y ≡ true → pieces (front ++ y ∷ back) ≡ pieces front ++ pieces back
@@ -41,24 +36,24 @@ pieces_both front back y e =
 
 -- ---- the items
 module _ {X Y : Type 0} (f : X → Option Y) (qs : List X) (ys : List Y) (back : (k : ℕ) → each_from f k qs ≡ Ok ys) where
-  then : (o : Option Y) (k : ℕ) (r s : Result (List Y) ℕ) (xs : List Y)
-      → put_front o k r ≡ Ok xs
-      → ((zs : List Y) → r ≡ Ok zs → s ≡ Ok (zs ++ ys))
-      → put_front o k s ≡ Ok (xs ++ ys)
-  then None k r s xs h go = cc
-  then (Some y) k (Err e) s xs h go = cc
-  then (Some y) k (Ok zs) s xs h go = let e : xs ≡ y ∷ zs = cc in rw (go zs refl, e) refl
+  abbrev with_end : Result (List Y) ℕ → Result (List Y) ℕ
+  with_end (Ok xs) = Ok (xs ++ ys)
+  with_end (Err place) = Err place
 
-  each_both : (k : ℕ) (ps : List X) (xs : List Y) → each_from f k ps ≡ Ok xs → each_from f k (ps ++ qs) ≡ Ok (xs ++ ys)
+  put_end : (o : Option Y) (k : ℕ) (read : Result (List Y) ℕ) → put_front o k (with_end read) ≡ with_end (put_front o k read)
+  put_end None k read = refl
+  put_end (Some y) k (Ok xs) = refl
+  put_end (Some y) k (Err place) = refl
+
+  each_both : (k : ℕ) (ps : List X) → each_from f k (ps ++ qs) ≡ with_end (each_from f k ps)
   unfolding each_from
-  each_both k [] xs h = let e : xs ≡ [] = cc in rw e (back k)
-  each_both k (p ∷ ps) xs h =
-      then (f p) k (each_from f (k + 1) ps) (each_from f (k + 1) (ps ++ qs)) xs h (λ zs r. each_both (k + 1) ps zs r)
+  each_both k [] = back k
+  each_both k (p ∷ ps) = rw (each_both (k + 1) ps) (put_end (f p) k (each_from f (k + 1) ps))
 
 pub joined : (text front back : List ℕ) (xs ys : List ItemParts)
     → Joins text front back → HasItems front xs → HasItems back ys → HasItems text (xs ++ ys)
 joined text front back xs ys is before behind = λ k.
-    ap (each_from item_of k) is ∙ each_both item_of (pieces back) ys behind k (pieces front) xs (before k)
+    ap (each_from item_of k) is ∙ rw (before k) at (each_both item_of (pieces back) ys behind k (pieces front))
 
 -- a text that is cut at a place
 pub joins_at : (text : List ℕ) (at : ℕ)

@@ -71,7 +71,12 @@ pub smaller : (ns : List ℕ) → AllByRecursion (λ n. n ≤ 4294967295) ns →
 smaller [] h = tt
 smaller (n ∷ ns) h = (omega (arith, h.0), smaller ns h.1)
 
+-- a text whose words are numbers in decimal
+pub numbers_worded : (text ns : List ℕ) → words text ≡ map decimal ns → AllByRecursion (λ n. n ≤ 4294967295) ns
+    → numbers_of text ≡ Ok ns
+unfolding numbers_of
+numbers_worded text ns e h = rw e (each-decimal 4294967295 1 ns (omega arith) h)
+
 -- numbers that are written are read again
 pub numbers_again : (ns : List ℕ) → AllByRecursion (λ n. n ≤ 4294967295) ns → numbers_of (spelled ns) ≡ Ok ns
-unfolding numbers_of
-numbers_again ns h = rw (words-spelled ns (smaller ns h)) (each-decimal 4294967295 1 ns (omega arith) h)
+numbers_again ns h = numbers_worded (spelled ns) ns (words-spelled ns (smaller ns h)) h

@@ -1,16 +1,13 @@
 -- Numbers with whitespace before them, and names, as what items say.
-use Rattle.std.proofs.Common.{◌≡◌, ℕ, ◌+◌, ◌<◌, ◌≤◌, ◌^◌, List, [], ◌∷◌, ◌++◌, All, Ok, get_or, length, drop, map, refl, sym, ap, ◌∙◌, subst, arith, append_assoc, inl, inr, drop-cons, add-one}
+use Rattle.std.proofs.Common.{◌≡◌, ℕ, ◌+◌, ◌<◌, ◌≤◌, ◌^◌, List, [], ◌∷◌, ◌++◌, All, Ok, get_or, length, drop, refl, sym, ap, ◌∙◌, subst, arith, append_assoc, inl, inr}
 use Rattle.std.specs.List.{AllByRecursion}
 use Rattle.std.specs.Fmt.{decimal}
-use Rattle.std.proofs.lemmas.List.{append-nil, drop_all}
+use Rattle.std.proofs.lemmas.List.{append-nil, drop_all, drop_more}
 use Rattle.std.proofs.lemmas.List.Elements.{All-append, All-cons, All-nil}
 use Rattle.buck_record.specs.bytes.White.{trim}
 unfoldable use Rattle.buck_record.specs.bytes.White.{trim_start, trim_end, words}
-use Rattle.buck_record.specs.Reading.{each_from}
-use Rattle.buck_record.specs.bytes.Record.{number_at_most}
 unfoldable use Rattle.buck_record.specs.bytes.Record.{numbers_of}
-use Rattle.buck_record.specs.writing.Written.{spelled}
-use Rattle.buck_record.proofs.RoundLemmas.{AreWhite, smaller, split-spaced, numbers_again, words-spelled}
+use Rattle.buck_record.proofs.RoundLemmas.{AreWhite, smaller, split-spaced, numbers_worded}
 unfoldable use Rattle.buck_record.specs.writing.Written.{spaced}
 use Rattle.buck_record.proofs.LineLemmas.{IsPlain, IsSaid, ends_decimal, starts_decimal, plain_decimal, ends_append, starts_append, white_plain}
 use Rattle.buck_record.proofs.WhiteLemmas.{StartsDark, EndsDark, trim_cases}
@@ -23,22 +20,6 @@ abbrev pub AreSmall : List ℕ → Type 0
 AreSmall ns = AllByRecursion (λ n. n ≤ 4294967295) ns
 
 module _ (white : ℕ → ℕ) (w : AreWhite white) where
-  said_words : (n : ℕ) (ns : List ℕ) → AllByRecursion (λ n. n < 2 ^ 64) (n ∷ ns)
-      → words (said white (n ∷ ns)) ≡ map decimal (n ∷ ns)
-  unfolding words spaced
-  said_words n ns h = split-spaced white w n 1 ns h.0 h.1
-
-  numbers_by_words : (xs ys : List ℕ) → words xs ≡ words ys → numbers_of xs ≡ numbers_of ys
-  unfolding numbers_of
-  numbers_by_words xs ys e = ap (λ ws. each_from (number_at_most 4294967295) 1 ws) e
-
-  -- numbers after a head are read again
-  pub numbers_said : (n : ℕ) (ns : List ℕ) → AreSmall (n ∷ ns) → numbers_of (said white (n ∷ ns)) ≡ Ok (n ∷ ns)
-  numbers_said n ns h =
-      let lt = smaller (n ∷ ns) h in
-      numbers_by_words (said white (n ∷ ns)) (spelled (n ∷ ns))
-      (said_words n ns lt ∙ sym (words-spelled (n ∷ ns) lt)) ∙ numbers_again (n ∷ ns) h
-
   ends_spaced : (xs : List ℕ) (k : ℕ) (ns : List ℕ) → AllByRecursion (λ n. n < 2 ^ 64) ns → EndsDark xs
       → EndsDark (xs ++ spaced white k ns)
   unfolding spaced
@@ -80,8 +61,11 @@ trimmed_is_dark xs some h =
 -- numbers of an item are read again
 pub said_again : (white : ℕ → ℕ) → AreWhite white → (ns : List ℕ) → 0 < length ns → AreSmall ns
     → numbers_of (said white ns) ≡ Ok ns
+unfolding words spaced
 said_again white w [] some small = absurd (omega arith)
-said_again white w (n ∷ ns) some small = numbers_said white w n ns small
+said_again white w (n ∷ ns) some small =
+    let lt = smaller (n ∷ ns) small in
+    numbers_worded (said white (n ∷ ns)) (n ∷ ns) (split-spaced white w n 1 ns lt.0 lt.1) small
 
 -- one number more was put
 pub spaced_goes_on : (white : ℕ → ℕ) (ns out whole : List ℕ) (i d : ℕ) → i < length ns
@@ -89,13 +73,11 @@ pub spaced_goes_on : (white : ℕ → ℕ) (ns out whole : List ℕ) (i d : ℕ)
     → (out ++ (white i ∷ decimal (get_or ns i d))) ++ spaced white (i + 1) (drop (i + 1) ns) ≡ whole
 unfolding spaced
 spaced_goes_on white ns out whole i d lt e =
-    let here : drop i ns ≡ get_or ns i d ∷ drop (i + 1) ns = rw add-one (drop-cons ns i d lt) in
     append_assoc out (white i ∷ decimal (get_or ns i d)) (spaced white (i + 1) (drop (i + 1) ns))
-    ∙ sym (ap (λ xs. out ++ spaced white i xs) here) ∙ e
+    ∙ rw (drop_more ns i d lt) at e
 
 -- no number is left
 pub spaced_ends : (white : ℕ → ℕ) (ns out whole : List ℕ) (i : ℕ) → length ns ≤ i
     → out ++ spaced white i (drop i ns) ≡ whole → out ≡ whole
 unfolding spaced
-spaced_ends white ns out whole i le e =
-    sym (append-nil out) ∙ sym (ap (λ xs. out ++ spaced white i xs) (drop_all i ns le)) ∙ e
+spaced_ends white ns out whole i le e = rw (drop_all i ns le, append-nil out) at e

@@ -1,10 +1,10 @@
 -- Groups of items, one after the other.
-use Rattle.std.proofs.Common.{◌≡◌, ℕ, suc, ◌+◌, ◌<◌, ◌≤◌, Bool, true, false, not, length-take-le, List, [], ◌∷◌, ◌++◌, Some, None, length, take, drop, get_or, refl, sym, ap, ◌∙◌, arith, inl, inr, drop-cons, append_assoc, add-one}
+use Rattle.std.proofs.Common.{◌≡◌, ℕ, suc, ◌+◌, ◌<◌, ◌≤◌, Bool, true, false, not, length-take-le, List, [], ◌∷◌, ◌++◌, Some, None, length, take, drop, get_or, refl, sym, ap, ◌∙◌, arith, inl, inr, append_assoc}
 use Rattle.std.specs.Prelude.{position}
 use Rattle.std.specs.List.{before_first, position_or_len}
-use Rattle.std.proofs.lemmas.List.{drop_all, append-nil}
+use Rattle.std.proofs.lemmas.List.{drop_all, drop_more, append-nil}
 use Rattle.std.proofs.lemmas.List.Sums.{prefix_len-le-length}
-use Rattle.std.proofs.lemmas.Bool.{cases_lt, cond-true, cond-false, lt-ltb, le-ltb}
+use Rattle.std.proofs.lemmas.Bool.{cases_lt, cond-true, lt-ltb}
 use Rattle.buck_record.proofs.WordLemmas.{bounded}
 use Rattle.buck_record.specs.Item.{ItemParts}
 use Rattle.buck_record.specs.declared.slot.Slot.{Slot}
@@ -12,22 +12,11 @@ use Rattle.buck_record.specs.checking.Table.{is_at}
 unfoldable use Rattle.buck_record.specs.checking.Table.{groups_of}
 
 module _ {X : Type 0} (p : X → Bool) (xs : List X) where
-  pub place-some : (k : ℕ) → position p xs ≡ Some k → position_or_len p xs ≡ k
-  place-some k e = elim (cases_lt (position_or_len p xs) (length xs)) [
-    | inl lt ↦ let s : position p xs ≡ Some (position_or_len p xs) = cond-true _ _ _ (lt-ltb _ _ lt) in cc
-    | inr le ↦ let s : position p xs ≡ None = cond-false _ _ _ (le-ltb _ _ le) in cc
-  ]
-
   pub place-none : position p xs ≡ None → position_or_len p xs ≡ length xs
   place-none e = elim (cases_lt (position_or_len p xs) (length xs)) [
     | inl lt ↦ let s : position p xs ≡ Some (position_or_len p xs) = cond-true _ _ _ (lt-ltb _ _ lt) in cc
     | inr le ↦ omega (arith, prefix_len-le-length (λ x. not (p x)) xs)
   ]
-
--- the items from a place on
-pub here : (items : List ItemParts) (i : ℕ) (x : ItemParts) → i < length items → x ≡ get_or items i x
-    → drop i items ≡ x ∷ drop (i + 1) items
-here items i x lt is = rw add-one (drop-cons items i x lt ∙ ap (λ y. y ∷ drop (suc i) items) (sym is))
 
 -- a group that begins at place i
 pub goes_on : (slot : Slot) (items : List ItemParts) (i : ℕ) (x : ItemParts) (before whole : List (List ItemParts))
@@ -40,14 +29,15 @@ goes_on slot items i x before whole group lt is h g e =
     let rest = drop (i + 1) items in
     let n : 1 + length (before_first (is_at slot) rest) ≡ suc (position_or_len (is_at slot) rest) =
     omega (arith, length-take-le (position_or_len (is_at slot) rest) rest (bounded (is_at slot) rest)) in
-    let first : group ≡ x ∷ before_first (is_at slot) rest = g ∙ rw (n, here items i x lt is) refl in
-    rw first (simp append_assoc (rw (here items i x lt is, h) at e))
+    let here : drop i items ≡ x ∷ rest = drop_more items i x lt ∙ ap (λ y. y ∷ rest) (sym is) in
+    let first : group ≡ x ∷ before_first (is_at slot) rest = g ∙ rw (n, here) refl in
+    rw first (simp append_assoc (rw (here, h) at e))
 
 pub passes_by : (slot : Slot) (items : List ItemParts) (i : ℕ) (x : ItemParts) (before whole : List (List ItemParts))
     → i < length items → x ≡ get_or items i x → is_at slot x ≡ false → before ++ groups_of slot (drop i items) ≡ whole
     → before ++ groups_of slot (drop (i + 1) items) ≡ whole
 unfolding groups_of
-passes_by slot items i x before whole lt is h e = rw (here items i x lt is, h) at e
+passes_by slot items i x before whole lt is h e = rw (drop_more items i x lt, ← is, h) at e
 
 pub groups-end : (slot : Slot) (items : List ItemParts) (i : ℕ) (before whole : List (List ItemParts))
     → length items ≤ i → before ++ groups_of slot (drop i items) ≡ whole → before ≡ whole

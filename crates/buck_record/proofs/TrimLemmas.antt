@@ -1,5 +1,5 @@
 -- The rest of an item that was read is trimmed.
-use Rattle.std.proofs.Common.{◌≡◌, ℕ, ◌+◌, Bool, List, [], ◌∷◌, Option, Some, None, Result, Ok, Err, take, filter, refl, subst, inl, inr}
+use Rattle.std.proofs.Common.{◌≡◌, ℕ, ◌+◌, List, [], ◌∷◌, Option, Some, None, IfSome, IfOk, Result, Ok, Err, take, filter, refl, inl, inr}
 use Rattle.std.specs.Prelude.{option_and_then}
 use Rattle.std.specs.List.{AllByRecursion, position_or_len}
 use Rattle.std.proofs.lemmas.Bool.{cases_Bool}
@@ -14,7 +14,7 @@ use Rattle.buck_record.specs.bytes.Record.{number_at_most, pieces}
 use Rattle.buck_record.specs.checking.Table.{is_at, is_in, only_in}
 unfoldable use Rattle.buck_record.specs.checking.Table.{rest_in, groups_of}
 unfoldable use Rattle.buck_record.specs.checking.Check.{make_each}
-use Rattle.std.proofs.lemmas.List.Elements.{recursion_from_All, All-from_recursion, All-take}
+use Rattle.std.proofs.lemmas.List.Elements.{recursion_from_All, All-from_recursion, All-take, All-filter}
 use Rattle.buck_record.proofs.WhiteLemmas.{trim_again}
 
 -- items of which each rest is trimmed, as readers have them
@@ -24,56 +24,41 @@ IsBare item = trim item.rest ≡ item.rest
 abbrev pub AreBare : List ItemParts → Type 0
 AreBare items = AllByRecursion IsBare items
 
-of_parts : (o p : Option ℕ) (r : List ℕ) (item : ItemParts)
-    → option_and_then (λ number. option_and_then (λ kind. Some (record { number = number; kind = kind; rest = trim r })) p) o
-    ≡ Some item
-    → IsBare item
-of_parts None p r item h = cc
-of_parts (Some n) None r item h = cc
-of_parts (Some n) (Some k) r item h =
-    let e : record { number = n; kind = k; rest = trim r } ≡ item = cc in subst IsBare e (trim_again r)
+of_parts : (o p : Option ℕ) (r : List ℕ)
+    → IfSome (option_and_then (λ n. option_and_then (λ k. Some (record { number = n; kind = k; rest = trim r })) p) o) IsBare
+of_parts None p r = tt
+of_parts (Some n) None r = tt
+of_parts (Some n) (Some k) r = trim_again r
 
-item_bare : (piece : List ℕ) (item : ItemParts) → item_of piece ≡ Some item → IsBare item
+item_bare : (piece : List ℕ) → IfSome (item_of piece) IsBare
 unfolding item_of
-item_bare piece item h =
+item_bare piece =
     of_parts (number_at_most 65535 (first_word piece)) (number_at_most 65535 (first_word (trim (after_word piece))))
-    (after_word (trim (after_word piece))) item h
+    (after_word (trim (after_word piece)))
 
-put_bare : (p : List ℕ) (o : Option ItemParts) → item_of p ≡ o → (k : ℕ) (r : Result (List ItemParts) ℕ)
-    → ((xs : List ItemParts) → r ≡ Ok xs → AreBare xs) → (items : List ItemParts) → put_front o k r ≡ Ok items
-    → AreBare items
-put_bare p None is k r more items h = cc
-put_bare p (Some x) is k (Err e) more items h = cc
-put_bare p (Some x) is k (Ok xs) more items h =
-    let e : x ∷ xs ≡ items = cc in subst AreBare e (item_bare p x is, more xs refl)
+put_bare : (o : Option ItemParts) (k : ℕ) (r : Result (List ItemParts) ℕ) → IfSome o IsBare → IfOk r AreBare
+    → IfOk (put_front o k r) AreBare
+put_bare None k r x more = tt
+put_bare (Some item) k (Err e) x more = tt
+put_bare (Some item) k (Ok items) x more = (x, more)
 
-each_bare : (k : ℕ) (ps : List (List ℕ)) (items : List ItemParts) → each_from item_of k ps ≡ Ok items → AreBare items
+each_bare : (k : ℕ) (ps : List (List ℕ)) → IfOk (each_from item_of k ps) AreBare
 unfolding each_from
-each_bare k [] items h = let e : [] ≡ items = cc in subst AreBare e tt
-each_bare k (p ∷ ps) items h =
-    put_bare p (item_of p) refl k (each_from item_of (k + 1) ps) (λ xs e. each_bare (k + 1) ps xs e) items h
+each_bare k [] = tt
+each_bare k (p ∷ ps) = put_bare (item_of p) k (each_from item_of (k + 1) ps) (item_bare p) (each_bare (k + 1) ps)
 
-filter_bare : (p : ItemParts → Bool) (items : List ItemParts) → AreBare items → AreBare (filter p items)
-filter_bare p [] h = tt
-filter_bare p (x ∷ xs) h =
-    elim (cases_Bool (p x)) [
-      | inl kept ↦ rw kept (h.0, filter_bare p xs h.1)
-      | inr other ↦ rw other (filter_bare p xs h.1)
-    ]
-
-of_read : {E : Type 0} (fault : ℕ → E) (slots : List Slot) (read : Result (List ItemParts) ℕ) (kept : List ItemParts)
-    → ((xs : List ItemParts) → read ≡ Ok xs → AreBare xs) → with_fault fault (only_in slots read) ≡ Ok kept → AreBare kept
-of_read fault slots (Err place) kept bare h = cc
-of_read fault slots (Ok items) kept bare h =
-    let e : filter (is_in slots) items ≡ kept = cc in
-    subst AreBare e (filter_bare (is_in slots) items (bare items refl))
+of_read : {E : Type 0} (fault : ℕ → E) (slots : List Slot) (read : Result (List ItemParts) ℕ) → IfOk read AreBare
+    → IfOk (with_fault fault (only_in slots read)) AreBare
+of_read fault slots (Err place) bare = tt
+of_read fault slots (Ok items) bare =
+    recursion_from_All IsBare (filter (is_in slots) items)
+    (All-filter (is_in slots) IsBare items (All-from_recursion IsBare items bare))
 
 -- items that were read are trimmed
 pub kept_bare : {E : Type 0} (fault : ℕ → E) (slots : List Slot) (bytes : List ℕ) (kept : List ItemParts)
     → with_fault fault (only_in slots (items_of bytes)) ≡ Ok kept → AreBare kept
 unfolding items_of
-kept_bare fault slots bytes kept h =
-    of_read fault slots (items_of bytes) kept (λ xs e. each_bare 1 (pieces bytes) xs e) h
+kept_bare fault slots bytes kept h = rw h at (of_read fault slots (items_of bytes) (each_bare 1 (pieces bytes)))
 
 take_bare : (n : ℕ) (items : List ItemParts) → AreBare items → AreBare (take n items)
 take_bare n items h = recursion_from_All IsBare (take n items) (All-take IsBare n items (All-from_recursion IsBare items h))

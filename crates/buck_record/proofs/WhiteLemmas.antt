@@ -1,13 +1,12 @@
 -- White bytes, and texts without them at their ends.
-use Rattle.std.proofs.Common.{◌≡◌, ℕ, zero, suc, ◌+◌, ◌-◌, ◌<◌, ◌≤◌, Bool, false, true, List, [], ◌∷◌, get_or, length, take, refl, ap, ◌∙◌, arith, inl, inr, ◌⊎◌, rules}
-use Rattle.std.specs.List.{suffix_len}
-use Rattle.std.proofs.lemmas.Bool.{cases_Bool}
-use Rattle.std.proofs.lemmas.Grind.{common_steps}
-use Rattle.std.proofs.lemmas.List.{take_all, get_or-take, length-take-le, take-take}
-use Rattle.std.proofs.lemmas.List.Sums.{suffix_len-take_yes, suffix_len_is}
+use Rattle.std.proofs.Common.{◌≡◌, ℕ, ◌-◌, ◌<◌, ◌≤◌, Bool, false, true, List, [], ◌∷◌, get_or, length, reverse, take, refl, ap, ◌∙◌, arith, inl, inr, ◌⊎◌, rules}
+use Rattle.std.specs.List.{suffix_len, prefix_len}
+use Rattle.std.proofs.Math.Nat.{add-zero}
+use Rattle.std.proofs.lemmas.Bool.{cases_lt}
+use Rattle.std.proofs.lemmas.List.{take_all, get_or-take, length-take-le, length-drop, get_or-drop, drop_all, get_or-reverse, length-reverse}
+use Rattle.std.proofs.lemmas.List.Sums.{suffix_len_is, prefix_len_stops}
 use Rattle.buck_record.specs.bytes.White.{is_white, trim}
 unfoldable use Rattle.buck_record.specs.bytes.White.{trim_start, trim_end}
-use Rattle.buck_record.proofs.WordLemmas.{start_white}
 
 pub no_true : (b : Bool) → (b ≡ true → ⊥) → b ≡ false
 no_true true h = absurd (h refl)
@@ -46,34 +45,30 @@ trim_dark xs s e = ap trim_end (start_dark xs s) ∙ end_dark xs e
 -- a text without whitespace at its start is empty, or begins with another byte
 start_cases : (xs : List ℕ) → (trim_start xs ≡ []) ⊎ StartsDark (trim_start xs)
 unfolding trim_start
-start_cases [] = inl refl
-start_cases (x ∷ xs) =
-    elim (cases_Bool (is_white x)) [
-      | inl white ↦ rw (start_white x xs white) (start_cases xs)
-      | inr dark ↦ rw dark (inr (omega arith, dark))
+start_cases xs =
+    let n = prefix_len is_white xs in
+    elim (cases_lt n (length xs)) [
+      | inl lt ↦ inr (omega (arith, length-drop n xs), rw (get_or-drop n xs 0 0, add-zero) (prefix_len_stops is_white xs 0 lt))
+      | inr le ↦ inl (drop_all n xs le)
     ]
 
 -- and one that is trimmed at its end too
-end_cases : (xs : List ℕ) → StartsDark xs → (n : ℕ) → n ≤ length xs
-    → (trim_end (take n xs) ≡ []) ⊎ (StartsDark (trim_end (take n xs)) × EndsDark (trim_end (take n xs)))
+end_cases : (xs : List ℕ) → StartsDark xs → (trim_end xs ≡ []) ⊎ (StartsDark (trim_end xs) × EndsDark (trim_end xs))
 unfolding trim_end
-end_cases xs s zero le = inl refl
-end_cases xs s (suc k) le =
-    let back : suc k - 1 ≡ k = omega arith in
-    let n : length (take (suc k) xs) ≡ suc k = length-take-le (suc k) xs le in
-    let first : get_or (take (suc k) xs) 0 0 ≡ get_or xs 0 0 = get_or-take (suc k) xs 0 0 (omega arith) in
-    let last : get_or (take (suc k) xs) k 0 ≡ get_or xs k 0 = get_or-take (suc k) xs k 0 (omega arith) in
-    elim (cases_Bool (is_white (get_or xs k 0))) [
-      | inl white ↦
-          let more : suffix_len is_white (take (suc k) xs) ≡ 1 + suffix_len is_white (take k xs) =
-          rw back at (suffix_len-take_yes is_white xs (suc k) 0 (omega arith) le (rw back white)) in
-          let m : length (take k xs) ≡ k = length-take-le k xs (omega arith) in
-          let same : trim_end (take (suc k) xs) ≡ trim_end (take k xs) =
-          rw (more, n, m) (grind (arith, common_steps, take-take)) in
-          rw same (end_cases xs s k (omega arith))
-      | inr dark ↦
-          let e : EndsDark (take (suc k) xs) = (omega (arith, n), rw (n, back) (ap is_white last ∙ dark)) in
-          inr (rw (end_dark (take (suc k) xs) e) ((omega (arith, n), ap is_white first ∙ s.1), e))
+end_cases xs s =
+    let n = suffix_len is_white xs in
+    let m = length xs - n in
+    elim (cases_lt n (length xs)) [
+      | inl lt ↦
+          let size : length (take m xs) ≡ m = length-take-le m xs (omega arith) in
+          let last : is_white (get_or xs (length xs - 1 - n) 0) ≡ false =
+          rw (get_or-reverse xs n 0 lt) at (prefix_len_stops is_white (reverse xs) 0 (omega (arith, length-reverse xs))) in
+          let back : length xs - 1 - n ≡ m - 1 = omega arith in
+          inr (
+            (omega (arith, size), rw (get_or-take m xs 0 0 (omega arith)) s.1),
+            (omega (arith, size), rw (size, get_or-take m xs (m - 1) 0 (omega arith), ← back) last),
+          )
+      | inr le ↦ inl (ap (λ k. take k xs) (let none : m ≡ 0 = omega arith in none))
     ]
 
 nothing : (trim [] ≡ []) × (trim_end [] ≡ [])
@@ -84,8 +79,7 @@ pub trim_cases : (xs : List ℕ) → (trim xs ≡ []) ⊎ (StartsDark (trim xs) 
 trim_cases xs =
     elim (start_cases xs) [
       | inl none ↦ inl (ap trim_end none ∙ nothing.1)
-      | inr dark ↦ rw (← take_all (length (trim_start xs)) (trim_start xs) (omega arith))
-          (end_cases (trim_start xs) dark (length (trim_start xs)) (omega arith))
+      | inr dark ↦ end_cases (trim_start xs) dark
     ]
 
 pub trim_again : (xs : List ℕ) → trim (trim xs) ≡ trim xs

@@ -47,7 +47,7 @@ unfoldable pub numbers_of : List ℕ → Result (List ℕ) ℕ
 numbers_of text = each_from (number_at_most 4294967295) 1 (words text)
 
 -- a first word's number, if there is one and no word follows: else the place of the word that is wrong
-abbrev only_number : Option ℕ → List (List ℕ) → Result ℕ ℕ
+abbrev pub only_number : Option ℕ → List (List ℕ) → Result ℕ ℕ
 only_number None more = Err 1
 only_number (Some n) [] = Ok n
 only_number (Some n) (word ∷ more) = Err 2

@@ -1,24 +1,35 @@
+use Rattle.std.proofs.Common.{sym, ◌∙◌}
+use Rattle.std.proofs.lemmas.List.{append-nil, drop_more, drop_all}
 use Rattle.std.proofs.lemmas.Result.{err_from_is_err_and}
-use Rattle.buck_record.proofs.CheckLemmas.{make_goes_on, make_stops, make_ends}
+use Rattle.buck_record.specs.checking.Check.{make_each}
+use Rattle.buck_record.proofs.CheckLemmas.{regroup}
 use Rattle.buck_record.proofs.checking.check.make_each.Goals as goal
 
 pub returns-in_err-f : goal.returns-in_err-f
+unfolding make_each
 returns-in_err-f g c = λ memory f remembers makes.
     let p = err_from_is_err_and c.from_residual-in_err-f.result c.from_residual-in_err-f.ensures.1 in
     rw (p.1, p.2)
-    (λ ne. make_stops f c.args.xs.now c.loop-x.made.items c.loop-x.x-index c.x-item.result c.in_err-f.field-0.0
-    c.loop-x-test.true c.x-item.is
-    (makes _ _ c.in_err-f.ensures ne) (c.loop-x.invariant memory f remembers makes))
+    (λ ne. sym (rw (
+      drop_more c.args.xs.now c.loop-x.x-index c.x-item.result c.loop-x-test.true,
+      ← c.x-item.is,
+      makes _ _ c.in_err-f.ensures ne,
+    ) at (c.loop-x.invariant memory f remembers makes)))
 
 pub loop-x-preserved : goal.loop-x-preserved
+unfolding make_each
 loop-x-preserved g c = λ memory f remembers makes.
     rw c.in-Ok.ensures.items
-    (make_goes_on f c.args.xs.now c.loop-x.made.items c.loop-x.x-index c.x-item.result c.in_ok-f.field-0
-    c.loop-x-test.true c.x-item.is
-    (makes _ _ c.in_ok-f.ensures) (c.loop-x.invariant memory f remembers makes))
+    (sym (regroup c.loop-x.made.items c.in_ok-f.field-0 _)
+    ∙ rw (
+      drop_more c.args.xs.now c.loop-x.x-index c.x-item.result c.loop-x-test.true,
+      ← c.x-item.is,
+      makes _ _ c.in_ok-f.ensures,
+    ) at (c.loop-x.invariant memory f remembers makes))
 
 pub returns : goal.returns
+unfolding make_each
 returns g c = λ memory f remembers makes.
     rw c.of.ensures
-    (make_ends f c.args.xs.now c.loop-x.made.items c.loop-x.x-index c.loop-x-test.false
-    (c.loop-x.invariant memory f remembers makes))
+    (sym (rw (drop_all c.loop-x.x-index c.args.xs.now c.loop-x-test.false, append-nil c.loop-x.made.items)
+    at (c.loop-x.invariant memory f remembers makes)))

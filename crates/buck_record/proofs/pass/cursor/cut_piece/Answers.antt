@@ -10,17 +10,6 @@ returns-then-not-is_empty-clause-first c =
     c.loop-rest.invariant.same
     ∙ cut.first (grind (arith, common_steps, c.is_empty-in-loop-rest.ensures, c.if-not-is_empty.true))
 
-pub returns-then-not-is_empty-clause-shorter : goal.returns-then-not-is_empty-clause-shorter
-returns-then-not-is_empty-clause-shorter c =
-    let cut = is_cut c.loop-rest.rest.now _ _ _ c.cut_part.ensures.part c.cut_part.ensures.left c.trim-piece.ensures in
-    let shorter = cut.shorter (grind (arith, common_steps, c.is_empty.ensures, c.loop-rest-test.true)) in
-    omega (arith, c.loop-rest.invariant.within)
-
-pub loop-rest-smaller : goal.loop-rest-smaller
-loop-rest-smaller c =
-    let cut = is_cut c.loop-rest.rest.now _ _ _ c.cut_part.ensures.part c.cut_part.ensures.left c.trim-piece.ensures in
-    cut.shorter (grind (arith, common_steps, c.is_empty.ensures, c.loop-rest-test.true))
-
 pub loop-rest-preserved : goal.loop-rest-preserved
 loop-rest-preserved c =
     let cut = is_cut c.loop-rest.rest.now _ _ _ c.cut_part.ensures.part c.cut_part.ensures.left c.trim-piece.ensures in

@@ -23,15 +23,6 @@ loop-rest-preserved-in-Some c =
           (arith, c.append_four.ensures, c.in-Some.ensures.long, length-drop 16 rest, room);
     })
 
-pub loop-rest-preserved : goal.loop-rest-preserved
-loop-rest-preserved c = record {
-  adding = c.in-Some-append_word.ensures.step ∙ c.loop-rest.invariant.adding;
-  room = c.in-Some-append_word.ensures.room;
-}
-
-pub returns-in_default-clause-refused : goal.returns-in_default-clause-refused
-returns-in_default-clause-refused c = λ _. sym c.loop-rest.invariant.adding ∙ c.in_default.ensures.stuck
-
 pub returns-clause-read : goal.returns-clause-read
 returns-clause-read c =
     let empty : length c.loop-rest.rest.now ≡ 0 =
