@@ -1,5 +1,5 @@
 -- The first piece of a text.
-use Rattle.std.proofs.Common.{◌≡◌, ℕ, ◌+◌, ◌<◌, ◌≤◌, true, false, List, ◌∷◌, Option, None, Some, length, get_or, refl, sym, ap, ◌∙◌, arith, length-drop}
+use Rattle.std.proofs.Common.{◌≡◌, ℕ, ◌+◌, ◌≤◌, true, false, List, ◌∷◌, Option, None, Some, length, get_or, refl, sym, ap, ap₂, subst, ◌==◌, eqb-true, ◌∙◌, arith, length-drop}
 use Rattle.std.specs.Prelude.{position}
 use Rattle.std.specs.List.{before_first, after_first, position_or_len}
 use Rattle.std.proofs.lemmas.List.Sums.{position_or_len_is}
@@ -8,18 +8,14 @@ use Rattle.memchr.specs.Find.{IsFirstByte, is_byte}
 use Rattle.buck_record.specs.Item.{ItemParts}
 use Rattle.buck_record.specs.bytes.White.{trim}
 unfoldable use Rattle.buck_record.specs.Reading.{each_from}
-use Rattle.buck_record.specs.bytes.Record.{is_tilde, pieces}
-use Rattle.buck_record.specs.pass.Cursor.{HasItems, HasItemsIn, Leads}
+use Rattle.buck_record.specs.bytes.Record.{is_tilde}
+use Rattle.buck_record.specs.pass.Cursor.{HasItems, HasItemsIn, Leads, item_in}
+use Rattle.buck_record.specs.inner.Front.{IsCut}
+use Rattle.buck_record.proofs.PassLemmas.{both}
 use Rattle.buck_record.specs.declared.slot.Slot.{Slot}
-use Rattle.buck_record.specs.checking.Table.{is_in}
+use Rattle.buck_record.specs.checking.Table.{is_at, is_in}
 use Rattle.buck_record.proofs.WhiteLemmas.{no_true}
 use Rattle.buck_record.proofs.WordLemmas.{pieces-first}
-
--- a text that is cut at its first tilde, and the first part trimmed
-pub record IsCut (text piece left : List ℕ) : Type 0 where
-  pub shorter : 0 < length text → length left < length text
-  pub first : 0 < length piece → pieces text ≡ piece ∷ pieces left
-  pub none : length piece ≡ 0 → pieces text ≡ pieces left
 
 pub is_cut : (text part piece left : List ℕ) → part ≡ before_first is_tilde text → left ≡ after_first is_tilde text
     → piece ≡ trim part → IsCut text piece left
@@ -48,6 +44,14 @@ kept_on {item} slots l inside items h =
 pub passed_on : {text left : List ℕ} {item : ItemParts} (slots : List Slot) → Leads text item left
     → is_in slots item ≡ false → (items : List ItemParts) → HasItemsIn slots left items → HasItemsIn slots text items
 passed_on {item} slots l other items h = (item ∷ h.0, leads_on l h.0 h.1, cond-false _ _ _ other ∙ h.2)
+
+-- an item that stands in a slot is the slot's, with a rest
+pub leads_in : {text left : List ℕ} {item : ItemParts} (s : Slot) → Leads text item left → is_at s item ≡ true
+    → Leads text (item_in s item.rest) left
+leads_in {text} {left} {item} s l at =
+    let p = both (item.number == s.number) (item.kind == s.kind) at in
+    subst (λ i. Leads text i left)
+    (ap₂ (λ n k. record { number = n; kind = k; rest = item.rest }) (eqb-true _ _ p.0) (eqb-true _ _ p.1)) l
 
 -- the first tilde that a search finds
 pub first-found : (text : List ℕ) (r : Option ℕ) → IsFirstByte (is_byte 126) text r → r ≡ position is_tilde text

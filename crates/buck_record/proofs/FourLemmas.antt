@@ -1,12 +1,10 @@
 -- Words of three digits, four at a time: groups of four bytes as lanes, and as the front of a text.
 use Rattle.std.proofs.Common.{◌≡◌, ℕ, ◌+◌, ◌*◌, ◌/◌, ◌%◌, ◌<◌, ◌≤◌, ltb, cond, true, false, Option, Some, None, IfSome, List, [], ◌∷◌, map, length, get_or, take, drop, replicate}
-use Rattle.std.proofs.Common.{bit_and, refl, sym, ap, ◌∙◌, subst, arith, inl, inr, w8, w32, Fits, get_or-drop, drop-drop, length-drop, length-take-le}
+use Rattle.std.proofs.Common.{refl, sym, ap, ap₂, ◌∙◌, subst, arith, w8, w32, Fits, get_or-drop, drop-drop, length-drop, length-take-le}
 use Rattle.std.specs.List.{position_or_len}
 use Rattle.std.specs.Char.{is_ascii_digit, digit_value}
 use Rattle.std.specs.Str.Parse.{digits_value}
-use Rattle.std.proofs.lemmas.Bool.{cases_Bool, ltb-true, cases_lt, lt-ltb}
 use Rattle.std.proofs.lemmas.Bool.Decides.{nat_tests}
-use Rattle.std.proofs.lemmas.Grind.{and_numeral}
 use Rattle.std.proofs.lemmas.Int.Digits.{digits_value_more}
 use Rattle.std.proofs.lemmas.Simd.{get_or-zip2, get_or-replicate, length-zip2, tops_compared, length-sel_l, get_or-sel_l, get_or_wider, get_or-chunk, length-chunk, chunk-fits, below_from_Fits}
 use borrow.Author.Count.{below_none, below_more}
@@ -19,87 +17,49 @@ use Rattle.buck_record.proofs.NumberLemmas.{cut-whole, after_is, digit_dark}
 use Rattle.buck_record.proofs.WordLemmas.{words-more, filled_word, bounded}
 
 -- ---- lane by lane
-pub lanes_of : (f : ℕ → ℕ → ℕ) (xs ys : List ℕ)
-    → length xs ≡ 4 → length ys ≡ 4 → HasFour (zip2 f xs ys) (λ i. f (get_or xs i 0) (get_or ys i 0))
-lanes_of f xs ys p q = record {
-  len = length-zip2 f xs ys (p ∙ sym q) ∙ p;
-  lanes = λ i h. get_or-zip2 f xs ys i 0 0 0 (omega (arith, p)) (omega (arith, q));
-}
+pub own : (xs : List ℕ) → length xs ≡ 4 → HasFour xs (λ i. get_or xs i 0)
+own xs n = record { len = n; lanes = λ i h. refl }
 
-pub lanes_with : (f : ℕ → ℕ → ℕ) (xs : List ℕ) (y : ℕ)
-    → length xs ≡ 4 → HasFour (zip2 f xs (replicate 4 y)) (λ i. f (get_or xs i 0) y)
-lanes_with f xs y p = record {
-  len = (lanes_of f xs (replicate 4 y) p refl).len;
-  lanes = λ i h. (lanes_of f xs (replicate 4 y) p refl).lanes i h ∙ ap (f (get_or xs i 0)) (get_or-replicate 4 i y 0 h);
-}
+pub same : (y : ℕ) → HasFour (replicate 4 y) (λ i. y)
+same y = record { len = refl; lanes = λ i h. get_or-replicate 4 i y 0 h }
 
-pub low_of : (xs : List ℕ) → length xs ≡ 4 → HasFour (zip2 bit_and xs (replicate 4 255)) (λ i. get_or xs i 0 % 256)
-low_of xs p = record {
-  len = (lanes_with bit_and xs 255 p).len;
-  lanes = λ i h. (lanes_with bit_and xs 255 p).lanes i h ∙ and_numeral (get_or xs i 0) 254 refl;
-}
+module _ {xs ys : List ℕ} {g h : ℕ → ℕ} (p : HasFour xs g) (q : HasFour ys h) where
+  pub both : (f : ℕ → ℕ → ℕ) → HasFour (zip2 f xs ys) (λ i. f (g i) (h i))
+  both f = record {
+    len = length-zip2 f xs ys (p.len ∙ sym q.len) ∙ p.len;
+    lanes = λ i l. get_or-zip2 f xs ys i 0 0 0 (omega (arith, p.len)) (omega (arith, q.len))
+        ∙ ap₂ f (p.lanes i l) (q.lanes i l);
+  }
 
-both_below : (a b : ℕ) → (a ≤ cond (ltb a b) b a) × (b ≤ cond (ltb a b) b a)
-both_below a b =
-    elim (cases_lt a b) [
-      | inl lt ↦ rw (lt-ltb a b lt) (omega arith, omega arith)
-      | inr le ↦ elim (cases_Bool (ltb a b)) [
-        | inl below ↦ rw below (omega (arith, ltb-true a b below), omega arith)
-        | inr above ↦ rw above (omega arith, omega arith)
-      ]
-    ]
+  tests : map (top 31) (zip2 (λ x y. cond (ltb x y) 4294967295 0) xs ys) ≡ zip2 ltb xs ys
+  tests = tops_compared w32 ltb xs ys
 
-module _ (a b : List ℕ) (p : length a ≡ 4) (q : length b ≡ 4) where
-  greatest : List ℕ
-  greatest = sel_l (map (top 31) (zip2 (λ x y. cond (ltb x y) 4294967295 0) a b)) b a
+  count : length (zip2 ltb xs ys) ≡ 4
+  count = length-zip2 ltb xs ys (p.len ∙ sym q.len) ∙ p.len
 
-  tests : map (top 31) (zip2 (λ x y. cond (ltb x y) 4294967295 0) a b) ≡ zip2 ltb a b
-  tests = tops_compared w32 ltb a b
+  pub greater : HasFour (sel_l (map (top 31) (zip2 (λ x y. cond (ltb x y) 4294967295 0) xs ys)) ys xs)
+      (λ i. cond (ltb (g i) (h i)) (h i) (g i))
+  greater = record {
+    len = rw tests (length-sel_l (zip2 ltb xs ys) ys xs (count ∙ sym q.len) (count ∙ sym p.len) ∙ count);
+    lanes = λ i l.
+        rw (
+          tests,
+          get_or-sel_l (zip2 ltb xs ys) ys xs i 0 (omega (arith, count)) (omega (arith, q.len)) (omega (arith, p.len)),
+          get_or-zip2 ltb xs ys i 0 0 false (omega (arith, p.len)) (omega (arith, q.len)),
+          p.lanes i l,
+          q.lanes i l,
+        ) refl;
+  }
 
-  count : length (zip2 ltb a b) ≡ 4
-  count = length-zip2 ltb a b (p ∙ sym q) ∙ p
-
-  pub greatest_len : length (sel_l (map (top 31) (zip2 (λ x y. cond (ltb x y) 4294967295 0) a b)) b a) ≡ 4
-  greatest_len = rw tests (length-sel_l (zip2 ltb a b) b a (count ∙ sym q) (count ∙ sym p) ∙ count)
-
-  pub greatest_lane : (i : ℕ) → i < 4
-      → (get_or a i 0 ≤ get_or (sel_l (map (top 31) (zip2 (λ x y. cond (ltb x y) 4294967295 0) a b)) b a) i 0)
-      × (get_or b i 0 ≤ get_or (sel_l (map (top 31) (zip2 (λ x y. cond (ltb x y) 4294967295 0) a b)) b a) i 0)
-  greatest_lane i h =
-      let lane :
-      get_or (sel_l (zip2 ltb a b) b a) i 0
-      ≡ cond (get_or (zip2 ltb a b) i false) (get_or b i 0) (get_or a i 0) =
-      get_or-sel_l (zip2 ltb a b) b a i 0 (omega (arith, count)) (omega (arith, q)) (omega (arith, p)) in
-      let test : get_or (zip2 ltb a b) i false ≡ ltb (get_or a i 0) (get_or b i 0) =
-      get_or-zip2 ltb a b i 0 0 false (omega (arith, p)) (omega (arith, q)) in
-      rw (tests, lane, test) (both_below (get_or a i 0) (get_or b i 0))
+pub greatest : (a b c : ℕ) → cond (ltb (cond (ltb a b) b a) c) c (cond (ltb a b) b a) ≤ 9 → (a ≤ 9) × (b ≤ 9) × (c ≤ 9)
+greatest a b c small = grind (arith, nat_tests)
 
 -- Four bytes less "000 " are three digits, the lowest first, and nothing above them.
-three : (g z : ℕ)
-    → g < 4294967296 → z ≡ (g + 3754938320) % 4294967296 → z % 256 ≤ 9 → z / 256 % 256 ≤ 9 → z / 65536 ≤ 9
-    → IsThree g (z % 256 * 100 + z / 256 % 256 * 10 + z / 65536)
-three g z fits is a b c =
-    record {
-      a = z % 256;
-      b = z / 256 % 256;
-      c = z / 65536;
-      digits = (a, b, c);
-      bytes = omega (arith, fits, is, a, b, c);
-      value = omega arith;
-    }
-
--- one lane of the four
-pub lane_three : (g z v a b c m most rest p q r : ℕ)
-    → g < 4294967296 → z ≡ (g + 3754938320) % 4294967296 → a ≡ z % 256 → rest ≡ z / 256 → b ≡ rest % 256
-    → c ≡ rest / 256
-    → a ≤ m → b ≤ m → m ≤ most → c ≤ most → most ≤ 9
-    → p ≡ a * 100 % 4294967296
-    → q ≡ b * 10 % 4294967296 → r ≡ (p + q) % 4294967296 → v ≡ (r + c) % 4294967296 → IsThree g v
-lane_three g z v a b c m most rest p q r fits zs ea er eb ec am bm mm cm small ep eq er2 ev =
-    subst (IsThree g)
-    (omega (arith, zs, ea, er, eb, ec, am, bm, mm, cm, small, ep, eq, er2, ev))
-    (three g z fits zs (omega (arith, ea, am, mm, small)) (omega (arith, er, eb, bm, mm, small))
-    (omega (arith, er, ec, cm, small)))
+pub three : (g z a b c : ℕ) → g < 4294967296 → z ≡ (g + 3754938320) % 4294967296 → a ≡ z % 256 → b ≡ z / 256 % 256
+    → c ≡ z / 256 / 256 → (a ≤ 9) × (b ≤ 9) × (c ≤ 9)
+    → IsThree g (((a * 100 % 4294967296 + b * 10 % 4294967296) % 4294967296 + c) % 4294967296)
+three g z a b c fits zs ea eb ec small =
+    record { a = a; b = b; c = c; digits = small; bytes = omega (arith, small); value = omega (arith, small) }
 
 -- ---- a text that begins with a number
 -- a text with a first word that is a number

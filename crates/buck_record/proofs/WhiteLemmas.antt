@@ -1,27 +1,35 @@
 -- White bytes, and texts without them at their ends.
-use Rattle.std.proofs.Common.{◌≡◌, ℕ, ◌-◌, ◌<◌, ◌≤◌, Bool, false, true, List, [], ◌∷◌, get_or, length, reverse, take, refl, ap, ◌∙◌, arith, inl, inr, ◌⊎◌, rules}
+use Rattle.std.proofs.Common.{◌≡◌, ℕ, ◌+◌, ◌-◌, ◌<◌, Bool, false, true, List, [], ◌∷◌, get_or, length, reverse, take, drop, sym, refl, ap, ◌∙◌, arith, inl, inr, ◌⊎◌, rules}
 use Rattle.std.specs.List.{suffix_len, prefix_len}
 use Rattle.std.proofs.Math.Nat.{add-zero}
 use Rattle.std.proofs.lemmas.Bool.{cases_lt}
-use Rattle.std.proofs.lemmas.List.{take_all, get_or-take, length-take-le, length-drop, get_or-drop, drop_all, get_or-reverse, length-reverse}
-use Rattle.std.proofs.lemmas.List.Sums.{suffix_len_is, prefix_len_stops}
+use Rattle.std.proofs.lemmas.List.{take_all, get_or-take, take-take, length-take-le, length-drop, get_or-drop, drop_all, get_or-reverse, length-reverse}
+use Rattle.std.proofs.lemmas.List.Sums.{suffix_len_is, suffix_len-take_yes, prefix_len_stops}
 use Rattle.buck_record.specs.bytes.White.{is_white, trim}
 unfoldable use Rattle.buck_record.specs.bytes.White.{trim_start, trim_end}
+use Rattle.buck_record.proofs.WordLemmas.{start_white}
 
 pub no_true : (b : Bool) → (b ≡ true → ⊥) → b ≡ false
 no_true true h = absurd (h refl)
 no_true false h = refl
 
--- the bytes from a place on are white, and the one before it isn't
-pub trim_end-found : (bs : List ℕ) (end : ℕ)
-    → end ≤ length bs
-    → ((k : ℕ) → end ≤ k → k < length bs → is_white (get_or bs k 0) ≡ true)
-    → (0 < end → is_white (get_or bs (end - 1) 0) ≡ false)
-    → trim_end bs ≡ take end bs
+-- a white byte at the start of a text, and one at its end
+pub start_past : (xs : List ℕ) → 0 < length xs → is_white (get_or xs 0 0) ≡ true
+    → trim_start (take (length xs - 1) (drop 1 xs)) ≡ trim_start xs
+start_past [] some white = absurd (omega arith)
+start_past (x ∷ xs) some white =
+    ap trim_start (take_all (length (x ∷ xs) - 1) xs (omega arith)) ∙ sym (start_white x xs white)
+
+pub end_past : (xs : List ℕ) → 0 < length xs → is_white (get_or xs (length xs - 1) 0) ≡ true
+    → trim_end (take (length xs - 1) xs) ≡ trim_end xs
 unfolding trim_end
-trim_end-found bs end within white dark =
-    let n : suffix_len is_white bs ≡ length bs - end = suffix_len_is is_white bs end 0 within white dark in
-    ap (λ k. take k bs) (omega (arith, n, within))
+end_past xs some white =
+    let n = length xs - 1 in
+    let more : suffix_len is_white xs ≡ 1 + suffix_len is_white (take n xs) =
+    rw (take_all (length xs) xs (omega arith)) at (suffix_len-take_yes is_white xs (length xs) 0 some (omega arith) white) in
+    let less : length xs - (1 + suffix_len is_white (take n xs)) ≡ n - suffix_len is_white (take n xs) = omega arith in
+    rw (more, less, length-take-le n xs (omega arith))
+    (take-take (n - suffix_len is_white (take n xs)) n xs (omega arith))
 
 -- a text whose first byte isn't white, and one whose last isn't
 abbrev pub StartsDark : List ℕ → Type 0
@@ -30,17 +38,17 @@ StartsDark xs = (0 < length xs) × (is_white (get_or xs 0 0) ≡ false)
 abbrev pub EndsDark : List ℕ → Type 0
 EndsDark xs = (0 < length xs) × (is_white (get_or xs (length xs - 1) 0) ≡ false)
 
-pub start_dark : (xs : List ℕ) → StartsDark xs → trim_start xs ≡ xs
+pub start_dark : (xs : List ℕ) → (0 < length xs → is_white (get_or xs 0 0) ≡ false) → trim_start xs ≡ xs
 unfolding trim_start
 start_dark [] h = refl
-start_dark (x ∷ xs) h = rw h.1 refl
+start_dark (x ∷ xs) h = rw (h (omega arith)) refl
 
-pub end_dark : (xs : List ℕ) → EndsDark xs → trim_end xs ≡ xs
+pub end_dark : (xs : List ℕ) → (0 < length xs → is_white (get_or xs (length xs - 1) 0) ≡ false) → trim_end xs ≡ xs
 unfolding trim_end
 end_dark xs h = search (rules, suffix_len_is, take_all)
 
 pub trim_dark : (xs : List ℕ) → StartsDark xs → EndsDark xs → trim xs ≡ xs
-trim_dark xs s e = ap trim_end (start_dark xs s) ∙ end_dark xs e
+trim_dark xs s e = ap trim_end (start_dark xs (λ _. s.1)) ∙ end_dark xs (λ _. e.1)
 
 -- a text without whitespace at its start is empty, or begins with another byte
 start_cases : (xs : List ℕ) → (trim_start xs ≡ []) ⊎ StartsDark (trim_start xs)

@@ -31,10 +31,10 @@ pub pieces-first : (text : List ℕ)
 unfolding trim_start trim_end
 pieces-first text = split-first filled_parts (λ t. refl) is_tilde text
 
-pub pieces-none : (text : List ℕ) → length text ≡ 0 → pieces text ≡ []
+pub pieces_none : (text : List ℕ) → length text ≡ 0 → pieces text ≡ []
 unfolding trim_start trim_end
-pieces-none [] h = refl
-pieces-none (b ∷ bs) h = absurd (omega arith)
+pieces_none [] h = refl
+pieces_none (b ∷ bs) h = absurd (omega arith)
 
 pub words-cons_white : (b : ℕ) (bs : List ℕ) → is_white b ≡ true → words (b ∷ bs) ≡ words bs
 unfolding words

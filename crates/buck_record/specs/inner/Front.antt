@@ -4,7 +4,7 @@ use Rattle.buck_record.specs.Item.{ItemParts}
 use Rattle.buck_record.specs.declared.slot.Slot.{Slot}
 use Rattle.buck_record.specs.Reading.{with_front, each_from}
 use Rattle.buck_record.specs.bytes.White.{first_word, words}
-use Rattle.buck_record.specs.bytes.Record.{number_at_most}
+use Rattle.buck_record.specs.bytes.Record.{number_at_most, pieces}
 use Rattle.buck_record.specs.checking.Table.{only_in}
 
 -- the items that are kept of those that were read: every one, or those in the slots
@@ -48,3 +48,9 @@ four_of xs = slice_index xs 0 ∷ slice_index xs 1 ∷ slice_index xs 2 ∷ slic
 pub record HasFronts (text values : List ℕ) : Type 0 where
   pub long : 16 ≤ length text
   pub fronts : (i : ℕ) → i < 4 → IsFront (drop (4 * i) text) (slice_index values i) (drop (4 * i + 4) text)
+
+-- a text that is cut at its first tilde, and the first part trimmed
+pub record IsCut (text piece left : List ℕ) : Type 0 where
+  pub shorter : 0 < length text → length left < length text
+  pub first : 0 < length piece → pieces text ≡ piece ∷ pieces left
+  pub none : length piece ≡ 0 → pieces text ≡ pieces left

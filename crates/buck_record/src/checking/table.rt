@@ -10,7 +10,8 @@ use crate::listed::Listed;
 use crate::slot::Slot;
 use std::alloc::{AllocError, Global};
 
-fn is_at(item: &Piece<'_>, slot: Slot) -> bool
+/// Whether the item stands in the slot.
+pub(crate) fn is_at(item: &Piece<'_>, slot: Slot) -> bool
     ensures { result ≡ is_at slot item.now }
 {
     item.number == slot.number && item.kind == slot.kind

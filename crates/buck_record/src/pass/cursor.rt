@@ -5,10 +5,11 @@ ghost use Rattle.buck_record.specs.Item.{ItemParts};
 ghost use Rattle.buck_record.specs.bytes.Record.{is_tilde, pieces};
 ghost use Rattle.buck_record.specs.pass.Cursor.{HasItems, HasItemsIn, Leads, item_in};
 ghost use Rattle.buck_record.specs.checking.Table.{is_in};
+ghost use Rattle.buck_record.specs.inner.Front.{IsCut};
 
 use crate::bytes::reading::read_piece;
 use crate::bytes::white::trim;
-use crate::checking::table::is_in;
+use crate::checking::table::{is_at, is_in};
 use crate::item::Piece;
 use crate::slot::Slot;
 use bstr::ByteSlice;
@@ -20,7 +21,7 @@ fn first_tilde(text: &[u8]) -> Option<usize>
 }
 
 /// The bytes up to the first tilde, and those after it.
-pub(crate) fn cut_part(text: &[u8]) -> (&[u8], &[u8])
+fn cut_part(text: &[u8]) -> (&[u8], &[u8])
     ensures part { result.0.now ≡ before_first is_tilde text.now }
     ensures left { result.1.now ≡ after_first is_tilde text.now }
 {
@@ -30,7 +31,16 @@ pub(crate) fn cut_part(text: &[u8]) -> (&[u8], &[u8])
     }
 }
 
+/// The first part of a text, up to its first tilde and trimmed, and the bytes after that tilde.
+fn cut_trimmed(text: &[u8]) -> (&[u8], &[u8])
+    ensures { IsCut text.now result.0.now result.1.now }
+{
+    let (part, left) = cut_part(text);
+    (trim(part), left)
+}
+
 /// The first piece of a text, and what is left of the text after the tilde that ends it. `None` if there is none.
+#[tactic(auto, using(crate::proofs::WordLemmas::pieces_none))]
 pub(crate) fn cut_piece(text: &[u8]) -> Option<(&[u8], &[u8])>
     ensures first { IfSome result (λ w. pieces text.now ≡ w.0.now ∷ pieces w.1.now) }
     ensures shorter { IfSome result (λ w. length w.1.now < length text.now) }
@@ -38,8 +48,7 @@ pub(crate) fn cut_piece(text: &[u8]) -> Option<(&[u8], &[u8])>
 {
     let mut rest = text;
     while !rest.is_empty() {
-        let (part, left) = cut_part(rest);
-        let piece = trim(part);
+        let (piece, left) = cut_trimmed(rest);
         if !piece.is_empty() {
             return Some((piece, left));
         }
@@ -70,10 +79,7 @@ pub fn next_in(slot: Slot, text: &[u8]) -> Option<(&[u8], &[u8])>
     let Some((item, left)) = next_item(text) else {
         return None;
     };
-    if item.number != slot.number {
-        return None;
-    }
-    if item.kind != slot.kind {
+    if !is_at(&item, slot) {
         return None;
     }
     Some((item.rest, left))
@@ -88,7 +94,7 @@ pub fn next_of<'a>(slot: Slot, slots: &[Slot], text: &'a [u8]) -> Option<(&'a [u
 {
     let mut rest = text;
     while let Some((item, left)) = next_item(rest) {
-        if item.number == slot.number && item.kind == slot.kind {
+        if is_at(&item, slot) {
             return Some((item.rest, left));
         }
         if is_in(&item, slots) {
@@ -114,6 +120,7 @@ pub fn past_others<'a>(slots: &[Slot], text: &'a [u8]) -> &'a [u8]
 }
 
 /// Whether a text has no item: nothing but whitespace and tildes.
+#[tactic(auto, unfolding(crate::specs::Reading::each_from))]
 pub fn is_done(text: &[u8]) -> bool
     ensures { IsTrue result → HasItems text.now [] }
 {
