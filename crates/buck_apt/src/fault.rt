@@ -3,101 +3,75 @@ ghost use Rattle.std.specs.Prelude.{◌≡◌, ◌∷◌, []};
 ghost use Rattle.buck_apt.specs.Faults.{apt_numbers};
 ghost use Rattle.buck_apt.specs.declared.fault.AptFault.TheVariants.{Memory, Head, Missing, Twice, Digits, Range, Order, Count};
 
-use buck_record::text::write_fields;
 use buck_record::{FaultNumbers, FormFault, Numbered, Slot};
 use std::alloc::{AllocError, AllocFailed};
-use std::error::Error;
-use std::fmt;
+use thiserror::Error;
 
 /// Why an instruction file is refused: the first refusal that applies, in this order, and within it the first item in
 /// the order of the file's table. `number` and `kind` are those of the item's head, 0 to 65,535.
-#[derive(Clone, Copy, Debug, PartialEq, Eq)]
+#[derive(Clone, Copy, Debug, PartialEq, Eq, Error)]
 pub enum AptFault {
     /// The first item without a head of two numbers below 65,536: `item` counts from 1 in file order.
+    #[error("item {item} has no head")]
     Head {
         item: usize,
     },
     /// The file doesn't say that it is an instruction.
+    #[error("the file is not an instruction")]
     NotApt,
     /// The item of this number and kind must be there and isn't. If an item of an assortment stands before the first
     /// name, it is the name that is missing.
+    #[error("item {number} {kind} is missing")]
     Missing {
         number: u16,
         kind: u16,
     },
     /// The item of this number and kind stands twice, in the file or in its assortment.
+    #[error("item {number} {kind} stands twice")]
     Twice {
         number: u16,
         kind: u16,
     },
     /// A word of the item of this number and kind isn't a number below 4,294,967,296. `place` is the first such word,
     /// from 1.
+    #[error("word {place} of item {number} {kind} is not a number")]
     Digits {
         number: u16,
         kind: u16,
         place: usize,
     },
     /// The item of this number and kind has a number outside its range, or is a name outside its rule.
+    #[error("item {number} {kind} is out of range")]
     Range {
         number: u16,
         kind: u16,
     },
     /// The item of this number and kind is a list against its order.
+    #[error("item {number} {kind} is out of order")]
     Order {
         number: u16,
         kind: u16,
     },
     /// The item of this number and kind has not as many numbers as it should have.
+    #[error("item {number} {kind} has another count of numbers")]
     Count {
         number: u16,
         kind: u16,
     },
     /// This length, in mm, isn't a multiple of the module: the least such one of the first assortment that has one.
+    #[error("length {length} is not a multiple of the module")]
     Module {
         length: u32,
     },
     /// The targets of the assortment at this index, from 0, are above 1,000,000,000 together.
+    #[error("the targets of assortment {assortment} are too many")]
     Targets {
         assortment: usize,
     },
     /// An allocation failed. It may come in place of any answer.
+    #[error("out of memory")]
     Memory,
 }
-
-impl AptFault {
-    /// The words before a fault's fields in its text, and those after them.
-    fn words(&self) -> (&'static str, &'static str) {
-        match self {
-            AptFault::Head { .. } => ("item", " has no head"),
-            AptFault::NotApt => ("the file is not an instruction", ""),
-            AptFault::Missing { .. } => ("item", " is missing"),
-            AptFault::Twice { .. } => ("item", " stands twice"),
-            AptFault::Digits { .. } => ("word", " is not a number"),
-            AptFault::Range { .. } => ("item", " is out of range"),
-            AptFault::Order { .. } => ("item", " is out of order"),
-            AptFault::Count { .. } => ("item", " has another count of numbers"),
-            AptFault::Module { .. } => ("length", " is not a multiple of the module"),
-            AptFault::Targets { .. } => ("the targets of assortment", " are too many"),
-            AptFault::Memory => ("out of memory", ""),
-        }
-    }
-}
-
-impl fmt::Display for AptFault {
-    fn fmt<W: fmt::Write>(&self, f: &mut fmt::Formatter<W>) -> fmt::Result {
-        let (before, after) = self.words();
-        match self {
-            AptFault::Digits {
-                number,
-                kind,
-                place,
-            } => write!(f, "{before} {place} of item {number} {kind}{after}"),
-            _ => write_fields(f, before, self, after),
-        }
-    }
-}
-
-impl Error for AptFault {}
 
 impl From<AllocError> for AptFault {
     ghost from_gives = { λ _ e. e ≡ Memory };
