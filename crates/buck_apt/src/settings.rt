@@ -23,10 +23,7 @@ impl Model for Settings {
       limit = s.limit;
     } };
 
-    ghost invariant = { λ s. IsSettings (record {
-      period = s.period;
-      limit = s.limit;
-    }) };
+    ghost invariant = { λ s. IsSettings (view s) };
 }
 
 impl Settings {
