@@ -24,7 +24,7 @@ ghost use Rattle.buck_apt.specs.Apt.{
 
 use crate::draft::{Draft, FileDraft};
 use crate::fault::AptFault;
-use crate::rules::{all_above, first_off_module, is_above, is_name};
+use crate::rules::{all_above, first_off_module, is_name, sum_of};
 use crate::slots::{
     ALONE, COUNT, DIAMETERS, GRADES, HEAD, IN_ASSORTMENT, LENGTHS, LIMIT, MEMBERS, MODULE,
     MOST_COLUMNS, MOST_GRADES, MOST_ROWS, MOST_TARGETS_TOGETHER, NAME, PERIOD, PRICE_KIND, PRICES,
@@ -213,7 +213,8 @@ pub(crate) fn on_module(file: &FileDraft) -> Result<(), AptFault>
 fn first_with_too_many_targets(drafts: &[Draft]) -> Option<usize>
     ensures { result ≡ position (λ d. nat_lt MOST_TARGETS_TOGETHER (sum d.targets)) drafts.now }
 {
-    drafts.iter().position(|draft| is_above(MOST_TARGETS_TOGETHER, draft.targets.as_slice()))
+    drafts.iter().position(|draft| sum_of(draft.targets.as_slice())
+        > u128::from(MOST_TARGETS_TOGETHER))
 }
 
 /// No assortment's targets are too many together.

@@ -48,16 +48,9 @@ pub(crate) fn first_off_module(module: u32, lengths: &[u32]) -> Option<u32>
     lengths.iter().copied().find(|length| *length % module != 0)
 }
 
-/// The numbers together are above `most`.
-pub(crate) fn is_above(most: u64, numbers: &[u32]) -> bool
-    ensures { result ≡ nat_lt most (sum numbers.now) }
+/// The numbers together.
+pub(crate) fn sum_of(numbers: &[u32]) -> u128
+    ensures { result ≡ sum numbers.now }
 {
-    let mut left = most;
-    for n in numbers {
-        if u64::from(*n) > left {
-            return true;
-        }
-        left -= u64::from(*n);
-    }
-    false
+    numbers.iter().map(|n| u128::from(*n)).sum()
 }
