@@ -1,15 +1,13 @@
 -- Which logs an assortment allows, as the code tests it, and their classes.
-use Rattle.std.proofs.Common.{◌≡◌, ℕ, ◌+◌, ◌*◌, ◌/◌, ◌%◌, add-mul, ◌<◌, ◌≤◌, ◌==◌, List, Contains, Option, Some, None, IsTrue, true, false, true≢false, length, get_or, slice_get, unwrap_or, position, refl, sym, ◌∙◌, ap, subst, inl, inr}
-use Rattle.std.proofs.Common.{arith, eqb-true, eq-eqb, cond, nat_lt}
+use Rattle.std.proofs.Common.{◌≡◌, ℕ, ◌+◌, ◌*◌, ◌/◌, ◌%◌, add-mul, ◌<◌, ◌≤◌, ◌==◌, List, All, Contains, Option, Some, None, IsTrue, true, false, true≢false, length, get_or, slice_get, unwrap_or, position, refl, sym, ◌∙◌, ap, subst}
+use Rattle.std.proofs.Common.{arith, eqb-true, eq-eqb}
 use Rattle.std.proofs.lemmas.Nat.{div-add-mod'}
 use Rattle.std.proofs.Math.Nat.{mul-mod_left}
-use Rattle.std.proofs.lemmas.Option.{none-some, slice_get_within, get_or_from_slice_get}
-use Rattle.std.proofs.lemmas.Bool.{cases_lt}
-use Rattle.std.proofs.lemmas.Bool.Decides.{nat_tests}
+use Rattle.std.proofs.lemmas.Option.{slice_get_within, get_or_from_slice_get}
 use Rattle.std.proofs.lemmas.List.Quantifiers.{position-Some}
 use Rattle.std.proofs.lemmas.List.Elements.{All-get_or, All-contains}
 use Rattle.std.proofs.lemmas.List.Sums.{fails_before_first}
-use Rattle.std.specs.List.{position_or_len}
+use Rattle.buck_record.proofs.TableLemmas.{place-none}
 use Rattle.buck_apt.specs.Instruction.{InstructionParts, AssortmentParts, IsAssortment, IsInstruction, IsClass, IsOnModule}
 use Rattle.buck_apt.specs.declared.class.Class.{Class}
 use Rattle.buck_stem.specs.Stem.{StemParts, stem_length, HasGradesOf, grade_at}
@@ -25,17 +23,9 @@ column_some xs l i e =
     (h.0, (i, h.0, eqb-true (get_or xs i l) l h.1))
 
 pub column_none : (xs : List ℕ) (l : ℕ) → position (λ x. x == l) xs ≡ None → Contains xs l → ⊥
-column_none xs l e c = elim (cases_lt c.0 (position_or_len (λ x. x == l) xs)) [
-  | inl before ↦
-      let fails = fails_before_first (λ x. x == l) xs c.0 l before in
-      let passes : (get_or xs c.0 l == l) ≡ true = eq-eqb (get_or xs c.0 l) l c.2 in
-      true≢false (sym passes ∙ fails)
-  | inr past ↦
-      let in_list : position_or_len (λ x. x == l) xs < length xs = omega arith in
-      let test : nat_lt (position_or_len (λ x. x == l) xs) (length xs) ≡ true = grind (arith, nat_tests) in
-      none-some (position_or_len (λ x. x == l) xs)
-      (sym e ∙ ap (λ b. cond b (Some (position_or_len (λ x. x == l) xs)) None) test)
-]
+column_none xs l e c =
+    true≢false (sym (eq-eqb (get_or xs c.0 l) l c.2)
+    ∙ fails_before_first (λ x. x == l) xs c.0 l (omega (arith, place-none (λ x. x == l) xs e, c.1)))
 
 -- the column by its place
 pub column_is : (a : AssortmentParts) (l column : ℕ) → position (λ x. x == l) a.lengths ≡ Some column
@@ -96,13 +86,16 @@ allows_by_tests step a stem log column top species grid at within grades is_top 
       bought = rw (← is_top, column_is a log.length column at) bought;
     }
 
+-- what holds of each assortment holds of the one at a place
+pub at_place : (P : AssortmentParts → Type 0) (xs : List AssortmentParts) (n : ℕ) (a : AssortmentParts) → All P xs
+    → slice_get xs n ≡ Some a → P a
+at_place P xs n a all is =
+    subst P (get_or_from_slice_get xs n a a is) (All-get_or P xs n a (slice_get_within xs n a is) all)
+
 -- the assortment of an allowed log is valid
 pub valid_of : (i : InstructionParts) (stem : StemParts) (g : Log) → IsInstruction i → (a : IsAllowed i stem g)
     → IsAssortment a.assortment
-valid_of i stem g v a =
-    let lt : g.assortment < length i.assortments = slice_get_within i.assortments g.assortment a.assortment a.exists in
-    subst IsAssortment (get_or_from_slice_get i.assortments g.assortment a.assortment a.assortment a.exists)
-    (All-get_or IsAssortment i.assortments g.assortment a.assortment lt v.assortments_valid)
+valid_of i stem g v a = at_place IsAssortment i.assortments g.assortment a.assortment v.assortments_valid a.exists
 
 -- the class of an allowed log is one of the instruction's
 pub class_is_class : (i : InstructionParts) (stem : StemParts) (g : Log) → IsInstruction i → IsAllowed i stem g

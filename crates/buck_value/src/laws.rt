@@ -39,6 +39,7 @@ pub fn class_of_allowed_log_exists()
 {}
 
 /// The row of a top diameter at or above the first lower limit is the last whose lower limit is at most it.
+#[tactic(auto, using(crate::proofs::Rows::row_is_last))]
 pub fn row_is_the_last()
     ensures { (a : AssortmentParts) (d : ℕ)
         → IsAssortment a → slice_index a.diameters 0 ≤ d → IsRow a d (row_at a d) }

@@ -16,6 +16,6 @@ pub use prepared::Prepared;
 pub use sheet::{HIGHEST_PRICE, Sheet};
 pub use wood::takes;
 pub use worth::{
-    Valuation, bought_row, class_of, column_of, log_valuation, log_worth, row_of,
-    valuation_of_allowed, volume_of, worth_if_allowed, worth_of_piece,
+    Valuation, bought_row, class_of, column_of, log_worth, row_of, valuation_of_allowed, volume_of,
+    worth_if_allowed, worth_of_piece,
 };

@@ -7,7 +7,7 @@ ghost use Rattle.buck_value.specs.Prepared.{points_of, lengths_of, log_at};
 
 use crate::log::Log;
 use crate::sheet::Sheet;
-use crate::worth::{measure, valuation_by};
+use crate::worth::{measure, worth_by};
 use buck_apt::{Assortment, Class};
 use buck_record::Memory;
 use buck_stem::{Profile, Stem};
@@ -61,35 +61,11 @@ impl<'s, 't> Prepared<'s, 't> {
         self.profile.points()
     }
 
-    /// The sheet.
-    pub fn sheet(&self) -> &Sheet
-        ensures { result.now ≡ self.now.sheet }
-    {
-        self.sheet
-    }
-
     /// The stem.
     pub fn stem(&self) -> &Stem
         ensures { result.now ≡ self.now.stem }
     {
         self.stem
-    }
-
-    /// How many assortments there are.
-    pub fn assortments(&self) -> usize
-        ensures { result ≡ length self.now.sheet.instruction.assortments }
-    {
-        self.sheet.instruction().assortments().len()
-    }
-
-    /// How many lengths the assortment at a place has.
-    pub fn columns(&self, assortment: usize) -> usize
-        requires { assortment < length self.now.sheet.instruction.assortments }
-        ensures { result ≡ length (lengths_of self.now assortment) }
-    {
-        self.sheet.instruction().assortments()[assortment]
-            .lengths()
-            .len()
     }
 
     /// The assortment at a place.
@@ -148,6 +124,6 @@ impl<'s, 't> Prepared<'s, 't> {
             (IsAllowed self.now.sheet.instruction self.now.stem (log_at self.now i assortment column) → ⊥) }
     {
         let log = self.log(i, assortment, column);
-        Some(valuation_by(self.sheet, self.stem, Some(&self.profile), &log)?.worth)
+        worth_by(self.sheet, self.stem, Some(&self.profile), &log)
     }
 }

@@ -2,13 +2,13 @@
 //!
 //! A log is allowed if its assortment is there and is of the stem's species, it starts at a multiple of the module,
 //! its length is one of the assortment's, it ends within the stem together with the assortment's trim allowance, each
-//! grade along its length is one of the assortment's, its
-//! top diameter is at or above the first lower limit and below the upper diameter, and the base price of its class
-//! isn't 0. Its row is the last whose lower limit is at most its top diameter, its column the place of its length.
-ghost use Rattle.std.specs.Prelude.{◌≡◌, ◌+◌, ◌*◌, ◌<◌, ◌≤◌, ◌↔◌, ◌%◌, ◌==◌, IsTrue, Some, IfSome, IfNone, slice_get, length, position};
+//! grade along its length is one of the assortment's, its top diameter is at or above the first lower limit and below
+//! the upper diameter, and the base price of its class isn't 0. Its row is the last whose lower limit is at most its top
+//! diameter, its column the place of its length.
+ghost use Rattle.std.specs.Prelude.{◌≡◌, ◌+◌, ◌*◌, ◌<◌, ◌≤◌, ◌%◌, ◌==◌, Some, IfSome, IfNone, slice_get, length, position};
 ghost use Rattle.buck_apt.specs.Instruction.{IsAssortment, IsClass, IsOnModule};
-ghost use Rattle.buck_stem.specs.Stem.{IsStem, stem_length, HasGradesOf};
-ghost use Rattle.buck_stem.specs.points.Profile.{profile_of};
+ghost use Rattle.buck_stem.specs.Stem.{IsStem, stem_length};
+ghost use Rattle.buck_stem.specs.points.Profile.{IsMask, profile_of};
 ghost use Rattle.buck_value.specs.Sheet.{IsSheet, price_of};
 ghost use Rattle.buck_value.specs.Allowed.{IsAllowed, Allows, IsBought, log_of, top_of, top_diameter, row_at, class_in, class_of, kind_in, worth_of};
 ghost use Rattle.buck_value.specs.Volume.{volume, worth_at};
@@ -119,31 +119,19 @@ fn top_in(step: u32, stem: &Stem, tables: Option<&Profile<'_>>, log: &Log) -> u3
     }
 }
 
-/// Whether each grade along the length of a log is one of these, from the stem's tables for a module if there are
-/// any.
-fn has_grades_in(
-    step: u32,
-    stem: &Stem,
-    tables: Option<&Profile<'_>>,
-    log: &Log,
-    grades: &[u8],
-) -> bool
+/// The grades along the length of a log, bit g - 1 for grade g, from the stem's tables for a module if there are any.
+fn grades_in(step: u32, stem: &Stem, tables: Option<&Profile<'_>>, log: &Log) -> u8
     requires step { 0 < step }
     requires tables { IfSome tables (λ q. q.now ≡ profile_of stem.now step) }
     requires start { log.now.start % step ≡ 0 }
     requires end { top_of log.now % step ≡ 0 }
     requires within { top_of log.now ≤ stem_length stem.now.samples }
-    requires valid { IsStem stem.now }
-    ensures { IsTrue result
-        ↔ HasGradesOf stem.now.zones log.now.start (top_of log.now) grades.now }
+    ensures { IsMask stem.now.zones log.now.start (top_of log.now) result }
 {
     let end = end_within(stem, log);
     match tables {
-        None => stem.has_grades_of(log.start, end, grades),
-        Some(tables) => {
-            let mask = tables.grades((log.start / step) as usize, (end / step) as usize);
-            are_in(Grades::of(mask), grades)
-        }
+        None => stem.grades_between(log.start, end),
+        Some(tables) => tables.grades((log.start / step) as usize, (end / step) as usize),
     }
 }
 
@@ -191,7 +179,8 @@ fn measure_in(
     if whole - end < assortment.trim() {
         return None;
     }
-    if !has_grades_in(step, stem, tables, log, assortment.grades()) {
+    let mask = grades_in(step, stem, tables, log);
+    if !are_in(Grades::of(mask), assortment.grades()) {
         return None;
     }
     let top = top_in(step, stem, tables, log);
@@ -282,49 +271,28 @@ pub struct Valuation {
     pub worth: u64,
 }
 
-/// The class, the top diameter and the worth of a log, or `None` if it isn't allowed, from the stem's tables for the
-/// sheet's module if there are any.
-pub(crate) fn valuation_by(
+/// What a log is worth, or `None` if it isn't allowed, from the stem's tables for the sheet's module if there are any.
+pub(crate) fn worth_by(
     sheet: &Sheet,
     stem: &Stem,
     tables: Option<&Profile<'_>>,
     log: &Log,
-) -> Option<Valuation>
+) -> Option<u64>
     requires { IfSome tables (λ q. q.now ≡ profile_of stem.now sheet.now.instruction.«module») }
     ensures allowed { IfSome result (λ _. IsAllowed sheet.now.instruction stem.now log.now) }
-    ensures class { IfSome result (λ v. v.class ≡ class_of sheet.now.instruction stem.now log.now) }
-    ensures top { IfSome result (λ v. v.top ≡ top_diameter stem.now log.now) }
-    ensures worth { IfSome result (λ v. v.worth ≡ worth_of sheet.now stem.now log.now) }
+    ensures worth { IfSome result (λ w. w ≡ worth_of sheet.now stem.now log.now) }
     ensures none { IfNone result (IsAllowed sheet.now.instruction stem.now log.now → ⊥) }
     ensures valid { IsSheet sheet.now }
     ensures stem { IfSome result (λ _. IsStem stem.now) }
 {
     match measure(sheet, stem, tables, log) {
         None => None,
-        Some(found) => Some(Valuation {
-            class: found.class,
-            top: found.top,
-            worth: worth_in_class(sheet, found.class, found.top, log.length),
-        }),
+        Some(found) => Some(worth_in_class(sheet, found.class, found.top, log.length)),
     }
 }
 
-/// The class, the top diameter and the worth of a log under a sheet, or `None` if it isn't allowed; see
-/// [`class_of`] and [`log_worth`]. Any log may be asked for. It takes no memory.
-pub fn log_valuation(sheet: &Sheet, stem: &Stem, log: &Log) -> Option<Valuation>
-    ensures allowed { IfSome result (λ _. IsAllowed sheet.now.instruction stem.now log.now) }
-    ensures class { IfSome result (λ v. v.class ≡ class_of sheet.now.instruction stem.now log.now) }
-    ensures top { IfSome result (λ v. v.top ≡ top_diameter stem.now log.now) }
-    ensures worth { IfSome result (λ v. v.worth ≡ worth_of sheet.now stem.now log.now) }
-    ensures none { IfNone result (IsAllowed sheet.now.instruction stem.now log.now → ⊥) }
-    ensures valid { IsSheet sheet.now }
-    ensures stem { IfSome result (λ _. IsStem stem.now) }
-{
-    valuation_by(sheet, stem, None, log)
-}
-
 /// Gives the worth of a log under a sheet, in millionths of the price unit, or `None` if it isn't allowed; see
-/// [`log_worth`]. Any log may be asked for.
+/// [`class_of`] and [`log_worth`]. Any log may be asked for. It takes no memory.
 pub fn worth_if_allowed(sheet: &Sheet, stem: &Stem, log: &Log) -> Option<u64>
     ensures allowed { IfSome result (λ _. IsAllowed sheet.now.instruction stem.now log.now) }
     ensures worth { IfSome result (λ w. w ≡ worth_of sheet.now stem.now log.now) }
@@ -332,11 +300,10 @@ pub fn worth_if_allowed(sheet: &Sheet, stem: &Stem, log: &Log) -> Option<u64>
     ensures valid { IsSheet sheet.now }
     ensures stem { IfSome result (λ _. IsStem stem.now) }
 {
-    Some(log_valuation(sheet, stem, log)?.worth)
+    worth_by(sheet, stem, None, log)
 }
 
-/// The class, the top diameter and the worth of a log that is allowed under a sheet, as [`log_valuation`] has them of
-/// any log. It takes no memory.
+/// The class, the top diameter and the worth of a log that is allowed under a sheet. It takes no memory.
 pub fn valuation_of_allowed(sheet: &Sheet, stem: &Stem, log: &Log) -> Valuation
     requires { IsAllowed sheet.now.instruction stem.now log.now }
     ensures class { result.class ≡ class_of sheet.now.instruction stem.now log.now }

@@ -13,8 +13,8 @@ use buck_apt::{Assortment, Class, Instruction};
 use buck_record::Memory;
 use buck_stem::{Grades, Stem};
 use buck_value::{
-    Log, Prepared, Sheet, bought_row, class_of, log_valuation, log_worth, row_of, takes, volume_of,
-    worth_if_allowed, worth_of_piece,
+    Log, Prepared, Sheet, bought_row, class_of, log_worth, row_of, takes, valuation_of_allowed,
+    volume_of, worth_if_allowed, worth_of_piece,
 };
 use std::alloc::Global;
 use std::sync::Arc;
@@ -148,7 +148,7 @@ pub fn takes_any_grade(assortment: &Assortment, species: u8, grades: Grades)
 pub fn species_not_compared(sheet: &Sheet, stem: &Stem, log: &Log)
     requires { ItsAssortment sheet.now log.now (λ a. a.species ≢ stem.now.species) }
 {
-    let right = log_valuation(sheet, stem, log).is_some();
+    let right = worth_if_allowed(sheet, stem, log).is_some();
     let wrong = true;
     prove!(right != wrong);
 }
@@ -157,7 +157,7 @@ pub fn species_not_compared(sheet: &Sheet, stem: &Stem, log: &Log)
 pub fn start_off_the_module(sheet: &Sheet, stem: &Stem, log: &Log)
     requires { log.now.start % sheet.now.instruction.«module» ≢ 0 }
 {
-    let right = log_valuation(sheet, stem, log).is_some();
+    let right = worth_if_allowed(sheet, stem, log).is_some();
     let wrong = true;
     prove!(right != wrong);
 }
@@ -166,7 +166,7 @@ pub fn start_off_the_module(sheet: &Sheet, stem: &Stem, log: &Log)
 pub fn any_length_let_in(sheet: &Sheet, stem: &Stem, log: &Log)
     requires { ItsAssortment sheet.now log.now (λ a. Contains a.lengths log.now.length → ⊥) }
 {
-    let right = log_valuation(sheet, stem, log).is_some();
+    let right = worth_if_allowed(sheet, stem, log).is_some();
     let wrong = true;
     prove!(right != wrong);
 }
@@ -175,7 +175,7 @@ pub fn any_length_let_in(sheet: &Sheet, stem: &Stem, log: &Log)
 pub fn log_past_the_end(sheet: &Sheet, stem: &Stem, log: &Log)
     requires { stem_length stem.now.samples < top_of log.now }
 {
-    let right = log_valuation(sheet, stem, log).is_some();
+    let right = worth_if_allowed(sheet, stem, log).is_some();
     let wrong = true;
     prove!(right != wrong);
 }
@@ -184,7 +184,7 @@ pub fn log_past_the_end(sheet: &Sheet, stem: &Stem, log: &Log)
 pub fn measure_in_without_trim(sheet: &Sheet, stem: &Stem, log: &Log)
     requires { stem_length stem.now.samples < end_of sheet.now.instruction log.now }
 {
-    let right = log_valuation(sheet, stem, log).is_some();
+    let right = worth_if_allowed(sheet, stem, log).is_some();
     let wrong = true;
     prove!(right != wrong);
 }
@@ -195,7 +195,7 @@ pub fn grade_at_start_alone(sheet: &Sheet, stem: &Stem, log: &Log)
     requires whole { ItsAssortment sheet.now log.now (λ a.
         HasGradesOf stem.now.zones log.now.start (top_of log.now) a.grades → ⊥) }
 {
-    let right = log_valuation(sheet, stem, log).is_some();
+    let right = worth_if_allowed(sheet, stem, log).is_some();
     let wrong = true;
     prove!(right != wrong);
 }
@@ -204,7 +204,7 @@ pub fn grade_at_start_alone(sheet: &Sheet, stem: &Stem, log: &Log)
 pub fn lowest_limit_not_looked_at(sheet: &Sheet, stem: &Stem, log: &Log)
     requires { ItsAssortment sheet.now log.now (λ a. top_diameter stem.now log.now < slice_index a.diameters 0) }
 {
-    let right = log_valuation(sheet, stem, log).is_some();
+    let right = worth_if_allowed(sheet, stem, log).is_some();
     let wrong = true;
     prove!(right != wrong);
 }
@@ -213,7 +213,7 @@ pub fn lowest_limit_not_looked_at(sheet: &Sheet, stem: &Stem, log: &Log)
 pub fn upper_diameter_let_in(sheet: &Sheet, stem: &Stem, log: &Log)
     requires { ItsAssortment sheet.now log.now (λ a. a.upper ≡ top_diameter stem.now log.now) }
 {
-    let right = log_valuation(sheet, stem, log).is_some();
+    let right = worth_if_allowed(sheet, stem, log).is_some();
     let wrong = true;
     prove!(right != wrong);
 }
@@ -224,7 +224,7 @@ pub fn base_price_0_let_in(sheet: &Sheet, stem: &Stem, log: &Log)
         slice_index a.prices (row_at a (top_diameter stem.now log.now) * length a.lengths + column_of a log.now.length)
         ≡ 0) }
 {
-    let right = log_valuation(sheet, stem, log).is_some();
+    let right = worth_if_allowed(sheet, stem, log).is_some();
     let wrong = true;
     prove!(right != wrong);
 }
@@ -252,13 +252,13 @@ pub fn class_by_butt_or_raw_sample_butt(sheet: &Sheet, stem: &Stem, log: &Log)
     requires rows { ItsAssortment sheet.now log.now (λ a.
         AreOfTwoRows a (diameter_at stem.now.samples log.now.start) (top_diameter stem.now log.now)) }
 {
-    let Some(found) = log_valuation(sheet, stem, log) else {
+    let Some(class) = class_of(sheet, stem, log.start, log.assortment, log.length) else {
         return;
     };
     let Some(assortment) = assortment_of(sheet, log) else {
         return;
     };
-    let right = found.class.row as usize;
+    let right = class.row as usize;
     let wrong = row_of(assortment, stem.diameter_at(log.start));
     prove!(right != wrong);
 }
@@ -268,13 +268,13 @@ pub fn class_by_butt_or_raw_sample_sample(sheet: &Sheet, stem: &Stem, log: &Log,
     requires sample { sample ≡ slice_index stem.now.samples (top_of log.now / 100) }
     requires rows { ItsAssortment sheet.now log.now (λ a. AreOfTwoRows a sample (top_diameter stem.now log.now)) }
 {
-    let Some(found) = log_valuation(sheet, stem, log) else {
+    let Some(class) = class_of(sheet, stem, log.start, log.assortment, log.length) else {
         return;
     };
     let Some(assortment) = assortment_of(sheet, log) else {
         return;
     };
-    let right = found.class.row as usize;
+    let right = class.row as usize;
     let wrong = row_of(assortment, sample);
     prove!(right != wrong);
 }
@@ -293,13 +293,11 @@ pub fn column_too_low(sheet: &Sheet, stem: &Stem, log: &Log)
 }
 
 /// The top diameter of a log is a millimetre too small.
-pub fn log_valuation_top_a_millimetre_less(sheet: &Sheet, stem: &Stem, log: &Log)
-    requires { top_diameter stem.now log.now ≡ 250 }
+pub fn top_a_millimetre_less(sheet: &Sheet, stem: &Stem, log: &Log)
+    requires allowed { IsAllowed sheet.now.instruction stem.now log.now }
+    requires top { top_diameter stem.now log.now ≡ 250 }
 {
-    let Some(found) = log_valuation(sheet, stem, log) else {
-        return;
-    };
-    let right = found.top;
+    let right = valuation_of_allowed(sheet, stem, log).top;
     let wrong = 249;
     prove!(right != wrong);
 }
@@ -312,15 +310,6 @@ pub fn volume_with_trim(sheet: &Sheet, stem: &Stem, log: &Log, wrong: u64)
     requires more { worth_with_length sheet.now stem.now log.now log.now.length ≢ wrong }
 {
     let right = log_worth(sheet, stem, log);
-    prove!(right != wrong);
-}
-
-/// Two assortments are counted if there is one.
-pub fn assortments_one_more(prepared: &Prepared<'_, '_>)
-    requires { length prepared.now.sheet.instruction.assortments ≡ 1 }
-{
-    let right = prepared.assortments();
-    let wrong = 2;
     prove!(right != wrong);
 }
 

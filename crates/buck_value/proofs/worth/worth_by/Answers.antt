@@ -1,7 +1,7 @@
 use Rattle.std.proofs.Common.{◌∙◌, subst, sym}
 use Rattle.buck_apt.specs.Instruction.{IsClass}
 use Rattle.buck_value.proofs.Classes.{allowed_low, class_is_class, worth_by_class}
-use Rattle.buck_value.proofs.worth.valuation_by.Goals as goal
+use Rattle.buck_value.proofs.worth.worth_by.Goals as goal
 
 pub worth_in_class-requires-clause-class : goal.worth_in_class-requires-clause-class
 worth_in_class-requires-clause-class c =
