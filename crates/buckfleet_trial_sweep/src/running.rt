@@ -44,7 +44,7 @@ fn write_table<W: io::Write>(
 /// each combination, and writes what that came to: a line of columns, and then a line for each combination, in their
 /// order. See "The table of a sweep" in docs/FORMATS.md. Nothing is written before the whole table is there.
 ///
-/// Each run is that of [`run_in_turn`](buckfleet_engine::run_in_turn) by the combination's rule, with its numbers in
+/// Each run is that of a fleet whose harvesters take turns, by the combination's rule, with its numbers in
 /// the place of the instruction's own; so is each fault, and when it comes. `Write` if the writer fails, which leaves a
 /// prefix of the table.
 pub fn run_sweep<R: io::Read, W: io::Write>(
