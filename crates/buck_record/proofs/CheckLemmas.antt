@@ -1,9 +1,15 @@
 -- Checks of a list, one element after the other.
-use Rattle.std.proofs.Common.{◌≡◌, ℕ, List, [], ◌∷◌, ◌++◌, append_assoc, Result, Ok, Err, drop, refl, ap}
+use Rattle.std.proofs.Common.{◌≡◌, ℕ, ◌+◌, ◌<◌, List, [], ◌∷◌, ◌++◌, append_assoc, Result, Ok, Err, length, get_or, drop, refl, ap}
+use Rattle.std.proofs.lemmas.List.{drop_more}
 use Rattle.buck_record.specs.checking.Check.{◌>>=◌, IsCheck, IsMaker}
 unfoldable use Rattle.buck_record.specs.checking.Check.{each, make_each}
 use Rattle.buck_record.specs.Reading.{IsMemory}
 use Rattle.std.specs.Borrow.{Bor}
+
+-- a list from one of its elements on
+pub here : {X : Type 0} (xs : List X) (i : ℕ) (x : X) → i < length xs → x ≡ get_or xs i x
+    → drop i xs ≡ x ∷ drop (i + 1) xs
+here xs i x lt is = rw (← is) at (drop_more xs i x lt)
 
 -- the checks from an element on give what those of all give
 abbrev pub GoesOn : {X E : Type 0} → (Bor X → Result (Unit {0}) E → Type 0) → List X → ℕ → Type 0

@@ -54,13 +54,13 @@ leads_in {text} {left} {item} s l at =
     (ap₂ (λ n k. record { number = n; kind = k; rest = item.rest }) (eqb-true _ _ p.0) (eqb-true _ _ p.1)) l
 
 -- the first tilde that a search finds
-pub first-found : (text : List ℕ) (r : Option ℕ) → IsFirstByte (is_byte 126) text r → r ≡ position is_tilde text
-first-found text None h =
+pub first_found : (text : List ℕ) (r : Option ℕ) → IsFirstByte (is_byte 126) text r → r ≡ position is_tilde text
+first_found text None h =
     let at : position_or_len is_tilde text ≡ length text =
     position_or_len_is is_tilde text (length text) 0 (omega arith)
     (λ k lt. no_true (is_tilde (get_or text k 0)) (h k (omega arith) lt)) (λ lt. absurd (omega arith)) in
     sym (cond-false _ _ _ (le-ltb (position_or_len is_tilde text) (length text) (omega (arith, at))))
-first-found text (Some i) h =
+first_found text (Some i) h =
     let at : position_or_len is_tilde text ≡ i =
     position_or_len_is is_tilde text i 0 (omega (arith, h.0.high))
     (λ k lt. no_true (is_tilde (get_or text k 0)) (h.0.before k (omega arith) lt)) (λ lt. h.1) in

@@ -1,20 +1,15 @@
 -- Words of three digits, four at a time: groups of four bytes as lanes, and as the front of a text.
 use Rattle.std.proofs.Common.{◌≡◌, ℕ, ◌+◌, ◌*◌, ◌/◌, ◌%◌, ◌<◌, ◌≤◌, ltb, cond, true, false, Option, Some, None, IfSome, List, [], ◌∷◌, map, length, get_or, take, drop, replicate}
 use Rattle.std.proofs.Common.{refl, sym, ap, ap₂, ◌∙◌, subst, arith, w8, w32, Fits, get_or-drop, drop-drop, length-drop, length-take-le}
-use Rattle.std.specs.List.{position_or_len}
 use Rattle.std.specs.Char.{is_ascii_digit, digit_value}
 use Rattle.std.specs.Str.Parse.{digits_value}
 use Rattle.std.proofs.lemmas.Bool.Decides.{nat_tests}
 use Rattle.std.proofs.lemmas.Int.Digits.{digits_value_more}
 use Rattle.std.proofs.lemmas.Simd.{get_or-zip2, get_or-replicate, length-zip2, tops_compared, length-sel_l, get_or-sel_l, get_or_wider, get_or-chunk, length-chunk, chunk-fits, below_from_Fits}
-use borrow.Author.Count.{below_none, below_more}
 use lib.Lanes.{zip2, sel_l, top, Each1, chunk, digits_l, number_l}
-use Rattle.buck_record.specs.bytes.White.{is_white}
 unfoldable use Rattle.buck_record.specs.bytes.White.{first_word, after_word}
-use Rattle.buck_record.specs.bytes.Record.{number_at_most}
 use Rattle.buck_record.specs.inner.Front.{HasFour, IsThree, IsFront, HasFronts}
-use Rattle.buck_record.proofs.NumberLemmas.{cut-whole, after_is, digit_dark}
-use Rattle.buck_record.proofs.WordLemmas.{words-more, filled_word, bounded}
+use Rattle.buck_record.proofs.NumberLemmas.{AreDigits, digits_more, word_ends, number-some}
 
 -- ---- lane by lane
 pub own : (xs : List ℕ) → length xs ≡ 4 → HasFour xs (λ i. get_or xs i 0)
@@ -62,21 +57,6 @@ three g z a b c fits zs ea eb ec small =
     record { a = a; b = b; c = c; digits = small; bytes = omega (arith, small); value = omega (arith, small) }
 
 -- ---- a text that begins with a number
--- a text with a first word that is a number
-pub front-word : (text left : List ℕ) (v : ℕ) → 0 < length (first_word text)
-    → Some v ≡ number_at_most 4294967295 (first_word text) → left ≡ after_word text → IsFront text v left
-unfolding first_word after_word
-front-word text left v filled value after =
-    let p = position_or_len is_white text in
-    let word = length-take-le p text (bounded is_white text) in
-    let rest = length-drop (p + 1) text in
-    record {
-      value = sym value;
-      words = words-more text left filled after;
-      shorter = rw after (omega (arith, filled, bounded is_white text, word, rest));
-      room = rw after (λ more. omega (arith, more, filled, bounded is_white text, word, rest));
-    }
-
 -- a digit's byte
 digit : (x a : ℕ) → a ≤ 9 → x ≡ 48 + a → (is_ascii_digit x ≡ true) × (digit_value x ≡ a)
 digit x a small is = rw is (grind (arith, nat_tests), grind (arith, nat_tests))
@@ -88,15 +68,15 @@ front-three : (text : List ℕ) (v w : ℕ) → 4 ≤ length text → ((k : ℕ)
 front-three text v w long byte is t =
     let small : (get_or text 0 0 < 256) × (get_or text 1 0 < 256) × (get_or text 2 0 < 256) × (get_or text 3 0 < 256) =
     (byte 0, byte 1, byte 2, byte 3) in
-    let d0 = digit (get_or text 0 0) t.a t.digits.0 (omega (arith, is, t.bytes, small, t.digits)) in
-    let d1 = digit (get_or text 1 0) t.b t.digits.1 (omega (arith, is, t.bytes, small, t.digits)) in
-    let d2 = digit (get_or text 2 0) t.c t.digits.2 (omega (arith, is, t.bytes, small, t.digits)) in
-    let blank : get_or text 3 0 ≡ 32 = omega (arith, is, t.bytes, small, t.digits) in
-    let white : is_white (get_or text 3 0) ≡ true = rw blank refl in
-    let P : ℕ → Type 0 = λ k. is_ascii_digit (get_or text k 0) ≡ true in
-    let digits : (k : ℕ) → k < 3 → is_ascii_digit (get_or text k 0) ≡ true =
-    below_more P 2 (below_more P 1 (below_more P 0 (below_none P) d0.0) d1.0) d2.0 in
-    let value : v ≡ digits_value 10 (take 3 text) =
+    let at : (get_or text 0 0 ≡ 48 + t.a) × (get_or text 1 0 ≡ 48 + t.b) × (get_or text 2 0 ≡ 48 + t.c)
+    × (get_or text 3 0 ≡ 32) = omega (arith, is, t.bytes, small, t.digits) in
+    let d0 = digit (get_or text 0 0) t.a t.digits.0 at.0 in
+    let d1 = digit (get_or text 1 0) t.b t.digits.1 at.1 in
+    let d2 = digit (get_or text 2 0) t.c t.digits.2 at.2 in
+    let digits : AreDigits (take 3 text) =
+    digits_more text 2 (digits_more text 1 (digits_more text 0 refl (omega arith) d0.0) (omega arith) d1.0) (omega arith)
+    d2.0 in
+    let value : digits_value 10 (take 3 text) ≡ v =
     omega (
       arith,
       t.value,
@@ -107,11 +87,13 @@ front-three text v w long byte is t =
       digits_value_more 10 text 1 (omega arith),
       digits_value_more 10 text 2 (omega arith),
     ) in
-    let filled = filled_word text (omega arith) (digit_dark (get_or text 0 0) d0.0) in
-    front-word text (drop 4 text) v filled
-    (sym (cut-whole text 3 digits (omega arith) (λ _. white) 4294967295 v filled value
-    (omega (arith, t.value, t.digits))))
-    (sym (after_is text 3 digits (omega arith) (λ _. white)))
+    let word = word_ends text 3 digits (omega arith) (λ _. rw at.3 refl) in
+    record {
+      filled = rw word.1 (omega (arith, length-take-le 3 text (omega arith)));
+      value = rw word.1 (number-some 4294967295 (take 3 text) digits (omega (arith, length-take-le 3 text (omega arith)))
+          (omega (arith, value, t.value, t.digits)) ∙ ap Some value);
+      after = sym word.2;
+    }
 
 -- ---- four groups of four bytes as one load
 number_four : (xs : List ℕ)

@@ -1,20 +1,19 @@
 -- When a word is a number, and the first word of a text while its digits are read one after the other.
-use Rattle.std.proofs.Common.{◌≡◌, ℕ, ◌+◌, ◌*◌, ◌<◌, ◌≤◌, true, false, nat_le, List, Some, None, length, get_or, take, drop, sym, ap, ◌∙◌, arith, rules, ◌&&◌, inl, inr, length-take-le}
+use Rattle.std.proofs.Common.{◌≡◌, ℕ, ◌+◌, ◌*◌, ◌<◌, ◌≤◌, true, false, List, Some, None, length, get_or, take, drop, refl, sym, ap, ◌∙◌, arith, rules, inl, inr, length-take-le}
 use Rattle.std.specs.List.{list_all, position_or_len}
 use Rattle.std.specs.Char.{is_ascii_digit, digit_value}
 use Rattle.std.specs.Str.Parse.{digits_value}
 use Rattle.std.proofs.lemmas.Str.Parse.{IsNumeralModel, numerals_by_value, digits_value-take-le}
 use Rattle.std.proofs.lemmas.Int.Digits.{digits_value_more}
-use Rattle.std.proofs.lemmas.List.{get_or-take, take-take, get_or_default}
-use Rattle.std.proofs.lemmas.List.Folds.{list_all_at}
-use Rattle.std.proofs.lemmas.List.Sums.{list_all-from_AllPass, passes_at_first, position_or_len_is}
-use Rattle.std.proofs.lemmas.Bool.{cases_Bool, cases_lt, false≢true, and_from, ltb-true, leb-true, le-leb, lt-ltb, cond-true, cond-false}
+use Rattle.std.proofs.lemmas.List.{get_or-take, take-take, take_rest, drop_all}
+use Rattle.std.proofs.lemmas.List.Folds.{list_all_at, list_all_more}
+use Rattle.std.proofs.lemmas.List.Sums.{AllPass-from_list_all, passes_at_first, position_or_len_is}
+use Rattle.std.proofs.lemmas.Bool.{cases_lt, false≢true, and_from, le-leb, lt-ltb, cond-true}
 use Rattle.std.proofs.lemmas.Bool.Decides.{nat_tests}
 use borrow.Author.Count.{below_more}
-use Rattle.buck_record.specs.bytes.White.{is_white, is_filled}
+use Rattle.buck_record.specs.bytes.White.{is_white}
 unfoldable use Rattle.buck_record.specs.bytes.White.{first_word, after_word}
 unfoldable use Rattle.buck_record.specs.bytes.Record.{number_at_most}
-use Rattle.buck_record.proofs.PassLemmas.{both}
 use Rattle.buck_record.proofs.WordLemmas.{bounded}
 
 abbrev pub AreDigits : List ℕ → Type 0
@@ -30,96 +29,72 @@ unfolding number_at_most
 number-some most word digits filled small =
     cond-true _ _ _ (and_from _ _ (lt-ltb _ _ filled) (and_from _ _ digits (le-leb _ _ small)))
 
--- it is no number if one of these fails
-number-none : (most : ℕ) (word : List ℕ) → (AreDigits word → 0 < length word → digits_value 10 word ≤ most → ⊥)
-    → number_at_most most word ≡ None
-unfolding number_at_most
-number-none most word h =
-    elim (cases_Bool (is_filled word && (list_all is_ascii_digit word && nat_le (digits_value 10 word) most))) [
-      | inl passed ↦
-          let a = both _ _ passed in
-          let b = both _ _ a.1 in
-          absurd (h b.0 (ltb-true _ _ a.0) (leb-true _ _ b.1))
-      | inr missed ↦ cond-false _ _ _ missed
-    ]
-
 pub digit_dark : (c : ℕ) → is_ascii_digit c ≡ true → is_white c ≡ false
 digit_dark c h = grind (arith, nat_tests)
 
--- a text that begins with digits
-module _ (text : List ℕ) (i : ℕ) (digits : (k : ℕ) → k < i → is_ascii_digit (get_or text k 0) ≡ true) where
-  dark : (k : ℕ) → k < i → is_white (get_or text k 0) ≡ false
-  dark k lt = digit_dark (get_or text k 0) (digits k lt)
+pub digits_more : (text : List ℕ) (i : ℕ) → AreDigits (take i text) → i < length text
+    → is_ascii_digit (get_or text i 0) ≡ true → AreDigits (take (i + 1) text)
+digits_more text i digits inside digit = rw (list_all_more is_ascii_digit text i 0 inside, digits, digit) refl
+
+-- a text that begins with digits: what `grind` matches stands first in the conclusions
+module _ (text : List ℕ) (i : ℕ) (digits : AreDigits (take i text)) where
+  dark : i ≤ length text → (k : ℕ) → k < i → is_white (get_or text k 0) ≡ false
+  dark within k lt =
+      digit_dark (get_or text k 0)
+      (rw (get_or-take i text k 0 lt)
+      at (AllPass-from_list_all is_ascii_digit (take i text) digits k 0 (omega (arith, length-take-le i text within, lt))))
 
   -- the word goes on past a byte that isn't white: it has the digits at its front, and the byte after them
-  front : i < length text → is_white (get_or text i 0) ≡ false
-      → (i < length (first_word text)) × (take i (first_word text) ≡ take i text)
+  pub word_goes_on : i < length text → is_white (get_or text i 0) ≡ false
+      → (take i text ≡ take i text) × (i < length (first_word text)) × (take i (first_word text) ≡ take i text)
       × (get_or (first_word text) i 0 ≡ get_or text i 0)
   unfolding first_word
-  front inside other =
+  word_goes_on inside other =
       let p = position_or_len is_white text in
       let lt : i < p = elim (cases_lt i p) [
         | inl lt ↦ lt
         | inr le ↦
-            let fails = below_more (λ k. is_white (get_or text k 0) ≡ false) i dark other in
+            let fails = below_more (λ k. is_white (get_or text k 0) ≡ false) i (dark (omega arith)) other in
             absurd (false≢true (sym (fails p (omega arith)) ∙ passes_at_first is_white text 0 (omega arith)))
       ] in (
+        refl,
         omega (arith, length-take-le p text (bounded is_white text)),
         take-take i p text (omega arith),
         get_or-take p text i 0 lt,
       )
 
-  -- a byte that is no digit
-  pub cut-not_digits : (most : ℕ) → i < length text → is_ascii_digit (get_or text i 0) ≡ false
-      → is_white (get_or text i 0) ≡ false → number_at_most most (first_word text) ≡ None
-  cut-not_digits most inside fails other =
-      let f = front inside other in
-      number-none most (first_word text) (λ all _ _. false≢true
-      (sym (list_all_at is_ascii_digit (first_word text) i 0 f.0 (ap is_ascii_digit f.2 ∙ fails)) ∙ all))
-
-  -- a digit with which the number is past its limit
-  pub cut-too_large : (most : ℕ) → i < length text → is_ascii_digit (get_or text i 0) ≡ true
-      → most < digits_value 10 (take i text) * 10 + digit_value (get_or text i 0)
-      → number_at_most most (first_word text) ≡ None
-  cut-too_large most inside digit large =
-      let f = front inside (digit_dark (get_or text i 0) digit) in
-      let past = rw (← f.1, ← f.2) at large in
-      number-none most (first_word text) (λ _ _ small. absurd (omega (
-        arith,
-        small,
-        past,
-        digits_value_more 10 (first_word text) i f.0,
-        digits_value-take-le 10 (first_word text) (i + 1) (omega (arith, f.0)),
-      )))
-
   -- a byte that is white, or the end of the text: the word is the digits
-  module _ (within : i ≤ length text) (end : i < length text → is_white (get_or text i 0) ≡ true) where
-    ends : position_or_len is_white text ≡ i
-    ends = position_or_len_is is_white text i 0 within dark end
+  pub word_ends : i ≤ length text → (i < length text → is_white (get_or text i 0) ≡ true)
+      → (take i text ≡ take i text) × (first_word text ≡ take i text) × (after_word text ≡ drop (i + 1) text)
+  unfolding first_word after_word
+  word_ends within end =
+      let p : position_or_len is_white text ≡ i = position_or_len_is is_white text i 0 within (dark within) end in
+      (refl, ap (λ n. take n text) p, ap (λ n. drop (n + 1) text) p)
 
-    pub after_is : after_word text ≡ drop (i + 1) text
-    unfolding after_word
-    after_is = ap (λ n. drop (n + 1) text) ends
+  -- a byte that is no digit, and one that is: then the word is worth as much at least
+  pub word_fails : i < length text → is_ascii_digit (get_or text i 0) ≡ false → is_white (get_or text i 0) ≡ false
+      → (take i text ≡ take i text) × (list_all is_ascii_digit (first_word text) ≡ false)
+  word_fails inside fails other =
+      let f = word_goes_on inside other in
+      (refl, list_all_at is_ascii_digit (first_word text) i 0 f.1 (ap is_ascii_digit f.3 ∙ fails))
 
-    all : AreDigits (take i text)
-    all = list_all-from_AllPass is_ascii_digit (take i text) (λ k d lt.
-        let below : k < i = omega (arith, lt, length-take-le i text within) in
-        ap is_ascii_digit (get_or-take i text k d below ∙ get_or_default text k d 0 (omega (arith, below)))
-        ∙ digits k below)
-
-    pub cut-whole : (most n : ℕ) → 0 < length (first_word text) → n ≡ digits_value 10 (take i text) → n ≤ most
-        → number_at_most most (first_word text) ≡ Some n
-    unfolding first_word
-    cut-whole most n filled value small =
-        let word : first_word text ≡ take i text = ap (λ n. take n text) ends in
-        rw word (number-some most (take i text) all (rw word at filled) (omega arith) ∙ ap Some (sym value))
+  pub word_worth : i < length text → is_ascii_digit (get_or text i 0) ≡ true → (take i text ≡ take i text)
+      × (digits_value 10 (take i text) * 10 + digit_value (get_or text i 0) ≤ digits_value 10 (first_word text))
+  word_worth inside digit =
+      let f = word_goes_on inside (digit_dark (get_or text i 0) digit) in (
+        refl,
+        rw (← f.2, ← f.3) (omega (
+          arith,
+          digits_value_more 10 (first_word text) i f.1,
+          digits_value-take-le 10 (first_word text) (i + 1) (omega (arith, f.1)),
+        )),
+      )
 
 -- a text with no byte, or with a white one at its front, begins with no number
 pub no_word : (most : ℕ) (text : List ℕ) → (0 < length text → is_white (get_or text 0 0) ≡ true)
     → number_at_most most (first_word text) ≡ None
-unfolding first_word
-no_word most text white =
-    let none : position_or_len is_white text ≡ 0 = ends text 0 (λ k lt. absurd (omega arith)) (omega arith) white in
-    number-none most (first_word text)
-    (λ _ filled _. absurd
-    (omega (arith, filled, none, length-take-le (position_or_len is_white text) text (omega (arith, none)))))
+unfolding number_at_most
+no_word most text white = rw (word_ends text 0 refl (omega arith) white).1 refl
+
+pub ruleset digit_steps =
+    (word_fails, word_worth, word_ends, digits_more, digits_value_more, nat_tests, take_rest, drop_all)

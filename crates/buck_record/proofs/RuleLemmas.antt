@@ -7,5 +7,5 @@ short [] le = refl
 short (n ∷ []) le = refl
 short (m ∷ n ∷ ns) le = absurd (omega arith)
 
-pub is_rising-end : (ns : List ℕ) (i : ℕ) → length ns ≤ i + 1 → is_rising (drop i ns) ≡ true
-is_rising-end ns i le = short (drop i ns) (omega (arith, length-drop i ns))
+pub is_rising_end : (ns : List ℕ) (i : ℕ) → length ns ≤ i + 1 → is_rising (drop i ns) ≡ true
+is_rising_end ns i le = short (drop i ns) (omega (arith, length-drop i ns))

@@ -1,10 +1,11 @@
 -- Groups of items, one after the other.
-use Rattle.std.proofs.Common.{◌≡◌, ℕ, suc, ◌+◌, ◌<◌, ◌≤◌, Bool, true, false, not, length-take-le, List, [], ◌∷◌, ◌++◌, Some, None, length, take, drop, get_or, refl, sym, ap, ◌∙◌, arith, inl, inr, append_assoc}
+use Rattle.std.proofs.Common.{◌≡◌, ℕ, suc, ◌+◌, ◌<◌, ◌≤◌, Bool, true, false, not, length-take-le, List, [], ◌∷◌, ◌++◌, Some, None, length, take, drop, get_or, refl, ◌∙◌, arith, inl, inr, append_assoc}
 use Rattle.std.specs.Prelude.{position}
 use Rattle.std.specs.List.{before_first, position_or_len}
 use Rattle.std.proofs.lemmas.List.{drop_all, drop_more, append-nil}
 use Rattle.std.proofs.lemmas.List.Sums.{prefix_len-le-length}
 use Rattle.std.proofs.lemmas.Bool.{cases_lt, cond-true, lt-ltb}
+use Rattle.buck_record.proofs.CheckLemmas.{here}
 use Rattle.buck_record.proofs.WordLemmas.{bounded}
 use Rattle.buck_record.specs.Item.{ItemParts}
 use Rattle.buck_record.specs.declared.slot.Slot.{Slot}
@@ -29,9 +30,8 @@ goes_on slot items i x before whole group lt is h g e =
     let rest = drop (i + 1) items in
     let n : 1 + length (before_first (is_at slot) rest) ≡ suc (position_or_len (is_at slot) rest) =
     omega (arith, length-take-le (position_or_len (is_at slot) rest) rest (bounded (is_at slot) rest)) in
-    let here : drop i items ≡ x ∷ rest = drop_more items i x lt ∙ ap (λ y. y ∷ rest) (sym is) in
-    let first : group ≡ x ∷ before_first (is_at slot) rest = g ∙ rw (n, here) refl in
-    rw first (simp append_assoc (rw (here, h) at e))
+    let first : group ≡ x ∷ before_first (is_at slot) rest = g ∙ rw (n, here items i x lt is) refl in
+    rw first (simp append_assoc (rw (here items i x lt is, h) at e))
 
 pub passes_by : (slot : Slot) (items : List ItemParts) (i : ℕ) (x : ItemParts) (before whole : List (List ItemParts))
     → i < length items → x ≡ get_or items i x → is_at slot x ≡ false → before ++ groups_of slot (drop i items) ≡ whole

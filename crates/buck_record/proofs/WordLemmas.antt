@@ -58,8 +58,8 @@ unfolding words
 words-none_left [] h = refl
 words-none_left (b ∷ bs) h = absurd (omega arith)
 
-pub words-none : (bs : List ℕ) → length (trim_start bs) ≡ 0 → words bs ≡ []
-words-none bs h = sym (words-trim_start bs) ∙ words-none_left (trim_start bs) h
+pub words_none : (bs : List ℕ) → length (trim_start bs) ≡ 0 → words bs ≡ []
+words_none bs h = sym (words-trim_start bs) ∙ words-none_left (trim_start bs) h
 
 -- a text that begins with a word, and what is left after it
 pub words-more : (text after : List ℕ) → 0 < length (first_word text) → after ≡ after_word text
@@ -85,6 +85,6 @@ start_filled (b ∷ bs) h =
       | inr dark ↦ rw dark (filled_word (b ∷ bs) (omega arith) dark)
     ]
 
-pub words-first : (bs : List ℕ) → 0 < length (trim_start bs)
+pub words_first : (bs : List ℕ) → 0 < length (trim_start bs)
     → words bs ≡ first_word (trim_start bs) ∷ words (after_word (trim_start bs))
-words-first bs h = sym (words-trim_start bs) ∙ words-more (trim_start bs) _ (start_filled bs h) refl
+words_first bs h = sym (words-trim_start bs) ∙ words-more (trim_start bs) _ (start_filled bs h) refl

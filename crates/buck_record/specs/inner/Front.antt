@@ -3,7 +3,7 @@ use Rattle.std.specs.Prelude.{◌≡◌, ℕ, Bool, ◌+◌, ◌*◌, ◌<◌, �
 use Rattle.buck_record.specs.Item.{ItemParts}
 use Rattle.buck_record.specs.declared.slot.Slot.{Slot}
 use Rattle.buck_record.specs.Reading.{with_front, each_from}
-use Rattle.buck_record.specs.bytes.White.{first_word, words}
+use Rattle.buck_record.specs.bytes.White.{first_word, after_word, words}
 use Rattle.buck_record.specs.bytes.Record.{number_at_most, pieces}
 use Rattle.buck_record.specs.checking.Table.{only_in}
 
@@ -12,15 +12,14 @@ abbrev pub kept : Bool → List Slot → Result (List ItemParts) ℕ → Result 
 kept every slots read = if every then read else only_in slots read
 
 -- the numbers so far, with those of the words that are left
-abbrev pub adds_on : List ℕ → List ℕ → Result (List ℕ) ℕ
+unfoldable pub adds_on : List ℕ → List ℕ → Result (List ℕ) ℕ
 adds_on now rest = with_front now (each_from (number_at_most 4294967295) (length now + 1) (words rest))
 
--- the text's first word is the number v, and `left` has the other words
+-- the text's first word is the number v, and `left` is what stands after it
 pub record IsFront (text : List ℕ) (v : ℕ) (left : List ℕ) : Type 0 where
+  pub filled : 0 < length (first_word text)
   pub value : number_at_most 4294967295 (first_word text) ≡ Some v
-  pub words : words text ≡ first_word text ∷ words left
-  pub shorter : length left < length text
-  pub room : 0 < length left → length left + 2 ≤ length text  -- a byte of the word and a white one
+  pub after : left ≡ after_word text
 
 -- a list of so many numbers, with room for so many in all, takes the numbers of so many bytes: one for each two
 abbrev pub HasRoom : ℕ → ℕ → ℕ → Type 0

@@ -38,6 +38,7 @@ pub(crate) fn read_piece<'a>(piece: &'a [u8]) -> Option<Piece<'a>>
 
 /// The items of a file's bytes, as [`pieces`] has them: every one, or those that stand in one of the slots. All others
 /// are read and left out.
+#[tactic(auto, using(crate::proofs::EachLemmas::piece_steps))]
 fn pieces_kept<'a>(
     alloc: Global,
     bytes: &'a [u8],
@@ -137,6 +138,7 @@ pub fn numbers(alloc: Global, text: &[u8]) -> Result<Vec<u32>, RecordFault>
 }
 
 /// The one number of a text, if it is at most `most`.
+#[tactic(auto, using(crate::proofs::RecordLemmas::one_word))]
 fn number_in(most: u64, text: &[u8]) -> Result<u64, RecordFault>
     ensures value { result ≡ with_fault (λ k. Digits k) (number_of most text.now) }
     ensures small { IfOk result (λ n. n ≤ most) }

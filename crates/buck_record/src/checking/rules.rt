@@ -112,6 +112,7 @@ pub fn counted_to<E: FormFault>(slot: Slot, most: usize, numbers: &[u32]) -> Res
 }
 
 /// Each number is below the next.
+#[tactic(auto, using(crate::proofs::RuleLemmas::is_rising_end))]
 pub fn is_rising(numbers: &[u32]) -> bool
     ensures { result ≡ is_rising numbers.now }
 {

@@ -14,6 +14,7 @@ use crate::item::Piece;
 use crate::slot::Slot;
 use bstr::ByteSlice;
 
+#[tactic(auto, using(crate::proofs::CursorLemmas::first_found))]
 fn first_tilde(text: &[u8]) -> Option<usize>
     ensures { result ≡ position is_tilde text.now }
 {

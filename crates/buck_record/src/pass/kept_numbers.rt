@@ -11,6 +11,7 @@ use std::alloc::AllocError;
 
 /// Passes over the byte that a text begins with, if that is white; or else adds the number that it begins with. What
 /// is left after it, and `None` if there is no such number.
+#[tactic(auto, using(crate::proofs::EachLemmas::word_steps))]
 #[inline(always)]
 fn append_word<'a>(text: &'a [u8], out: &mut Vec<u32>) -> Option<&'a [u8]>
     requires some { 0 < length text.now }
@@ -48,6 +49,7 @@ fn append_four(values: [u32; 4], out: &mut Vec<u32>)
 /// Adds the numbers of a text to an empty list that has room for one for each two bytes of the text, up to the first
 /// word that is none, and answers whether each of the words was a number. Four words of three digits, each with a space
 /// after it, are read at once.
+#[tactic(auto, using(crate::proofs::EachLemmas::steps))]
 fn append_each(text: &[u8], out: &mut Vec<u32>) -> bool
     requires empty { out.old.items ≡ [] }
     requires room { HasRoom (vec_len out.old) (vec_capacity out.old) (length text.now) }

@@ -26,6 +26,7 @@ fn next_tilde(text: &[u8], from: usize) -> Option<usize>
 }
 
 /// The texts before and behind the first tilde, from a place on, behind which an item of this slot stands.
+#[tactic(auto, using(crate::proofs::PartLemmas::joins_at))]
 fn cut_before(slot: Slot, text: &[u8], near: usize) -> Option<(&[u8], &[u8])>
     requires { near ≤ length text.now }
     ensures { IfSome result (λ w. Joins text.now w.0.now w.1.now) }

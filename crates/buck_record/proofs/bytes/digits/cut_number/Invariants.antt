@@ -1,12 +1,12 @@
-use Rattle.std.proofs.Common.{◌≡◌, ℕ, ◌<◌, ◌≤◌, true, take, get_or}
-use Rattle.std.specs.Char.{is_ascii_digit}
+use Rattle.std.proofs.Common.{◌≡◌, ◌≤◌, take}
 use Rattle.std.specs.Str.Parse.{digits_value}
+use Rattle.buck_record.proofs.NumberLemmas.{AreDigits}
 use Rattle.buck_record.proofs.bytes.digits.cut_number.Given as goal
 
 -- the bytes so far are digits, and the value is theirs and within its limit
 abbrev pub invariant-loop-i : goal.invariant-loop-i
 invariant-loop-i l = record {
-  digits : (k : ℕ) → k < l.i → is_ascii_digit (get_or l.text k 0) ≡ true;
+  digits : AreDigits (take l.i l.text);
   value : l.value ≡ digits_value 10 (take l.i l.text);
   small : l.value ≤ l.most;
 }
