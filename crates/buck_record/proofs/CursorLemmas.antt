@@ -3,7 +3,7 @@ use Rattle.std.proofs.Common.{◌≡◌, ℕ, ◌+◌, ◌≤◌, true, false, L
 use Rattle.std.specs.Prelude.{position}
 use Rattle.std.specs.List.{before_first, after_first, position_or_len}
 use Rattle.std.proofs.lemmas.List.Sums.{position_or_len_is}
-use Rattle.std.proofs.lemmas.Bool.{lt-ltb, le-ltb, cond-true, cond-false}
+use Rattle.std.proofs.lemmas.Bool.{false_from_ne_true, lt-ltb, le-ltb, cond-true, cond-false}
 use Rattle.memchr.specs.Find.{IsFirstByte, is_byte}
 use Rattle.buck_record.specs.Item.{ItemParts}
 use Rattle.buck_record.specs.bytes.White.{trim}
@@ -14,7 +14,6 @@ use Rattle.buck_record.specs.inner.Front.{IsCut}
 use Rattle.buck_record.proofs.PassLemmas.{both}
 use Rattle.buck_record.specs.declared.slot.Slot.{Slot}
 use Rattle.buck_record.specs.checking.Table.{is_at, is_in}
-use Rattle.buck_record.proofs.WhiteLemmas.{no_true}
 use Rattle.buck_record.proofs.WordLemmas.{pieces-first}
 
 pub is_cut : (text part piece left : List ℕ) → part ≡ before_first is_tilde text → left ≡ after_first is_tilde text
@@ -58,11 +57,11 @@ pub first_found : (text : List ℕ) (r : Option ℕ) → IsFirstByte (is_byte 12
 first_found text None h =
     let at : position_or_len is_tilde text ≡ length text =
     position_or_len_is is_tilde text (length text) 0 (omega arith)
-    (λ k lt. no_true (is_tilde (get_or text k 0)) (h k (omega arith) lt)) (λ lt. absurd (omega arith)) in
+    (λ k lt. false_from_ne_true (is_tilde (get_or text k 0)) (h k (omega arith) lt)) (λ lt. absurd (omega arith)) in
     sym (cond-false _ _ _ (le-ltb (position_or_len is_tilde text) (length text) (omega (arith, at))))
 first_found text (Some i) h =
     let at : position_or_len is_tilde text ≡ i =
     position_or_len_is is_tilde text i 0 (omega (arith, h.0.high))
-    (λ k lt. no_true (is_tilde (get_or text k 0)) (h.0.before k (omega arith) lt)) (λ lt. h.1) in
+    (λ k lt. false_from_ne_true (is_tilde (get_or text k 0)) (h.0.before k (omega arith) lt)) (λ lt. h.1) in
     ap Some (sym at)
     ∙ sym (cond-true _ _ _ (lt-ltb (position_or_len is_tilde text) (length text) (omega (arith, at, h.0.high))))

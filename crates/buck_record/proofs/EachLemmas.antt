@@ -1,5 +1,6 @@
 -- Reading a list one element after the other, as a loop does.
-use Rattle.std.proofs.Common.{◌≡◌, ℕ, ◌<◌, ◌+◌, ◌*◌, Bool, true, false, List, [], ◌∷◌, ◌++◌, Some, None, Option, cond, if◌then◌else◌, Result, Ok, Err, length, get_or, take, drop, filter, ◌≤◌, ◌-◌, take_all, length-take-le, length-drop, refl, sym, ap, ◌∙◌, arith, append_assoc, ◌||◌}
+use Rattle.std.proofs.Common.{◌≡◌, ℕ, ◌<◌, ◌+◌, ◌*◌, Bool, true, false, List, [], ◌∷◌, ◌++◌, Some, None, Option, cond, if◌then◌else◌, Result, Ok, Err}
+use Rattle.std.proofs.Common.{length, get_or, take, drop, filter, ◌≤◌, ◌-◌, take_all, length-take-le, length-drop, refl, sym, ap, ◌∙◌, arith, append_assoc, ◌||◌}
 use Rattle.std.proofs.lemmas.List.{append-nil, length_push, take_rest}
 use Rattle.std.specs.List.{position_or_len}
 use Rattle.buck_record.specs.Item.{ItemParts}

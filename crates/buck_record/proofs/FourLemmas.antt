@@ -6,6 +6,7 @@ use Rattle.std.specs.Str.Parse.{digits_value}
 use Rattle.std.proofs.lemmas.Bool.Decides.{nat_tests}
 use Rattle.std.proofs.lemmas.Int.Digits.{digits_value_more}
 use Rattle.std.proofs.lemmas.Simd.{get_or-zip2, get_or-replicate, length-zip2, tops_compared, length-sel_l, get_or-sel_l, get_or_wider, get_or-chunk, length-chunk, chunk-fits, below_from_Fits}
+use Rattle.std.proofs.lemmas.Grind.{elements}
 use lib.Lanes.{zip2, sel_l, top, Each1, chunk, digits_l, number_l}
 unfoldable use Rattle.buck_record.specs.bytes.White.{first_word, after_word}
 use Rattle.buck_record.specs.inner.Front.{HasFour, IsThree, IsFront, HasFronts}
@@ -99,12 +100,9 @@ front-three text v w long byte is t =
 number_four : (xs : List ℕ)
     → length xs ≡ 4
     → number_l 256 xs ≡ get_or xs 0 0 + 256 * get_or xs 1 0 + 65536 * get_or xs 2 0 + 16777216 * get_or xs 3 0
-number_four [] h = absurd (omega (arith, h))
-number_four (a ∷ []) h = absurd (omega (arith, h))
-number_four (a ∷ b ∷ []) h = absurd (omega (arith, h))
-number_four (a ∷ b ∷ c ∷ []) h = absurd (omega (arith, h))
-number_four (a ∷ b ∷ c ∷ d ∷ []) h = omega arith
-number_four (a ∷ b ∷ c ∷ d ∷ e ∷ xs) h = absurd (omega (arith, h))
+number_four xs h =
+    let all : xs ≡ get_or xs 0 0 ∷ get_or xs 1 0 ∷ get_or xs 2 0 ∷ get_or xs 3 0 ∷ [] = grind (arith, elements) in
+    rw all (omega arith)
 
 -- the four groups of a text's first bytes
 abbrev lanes_in : List ℕ → List ℕ

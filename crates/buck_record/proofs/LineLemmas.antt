@@ -22,8 +22,7 @@ unfoldable use Rattle.buck_record.specs.bytes.Record.{item_of, items_of, numbers
 use Rattle.buck_record.specs.pass.Cursor.{HasItems, item_in}
 use Rattle.buck_record.proofs.NumberLemmas.{numeral, digit_dark}
 use Rattle.buck_record.proofs.RoundLemmas.{dark, number-decimal}
-use Rattle.buck_record.proofs.WhiteLemmas.{StartsDark, EndsDark, trim_dark}
-use Rattle.buck_record.proofs.WordLemmas.{start_white}
+use Rattle.buck_record.proofs.WhiteLemmas.{StartsDark, EndsDark, trim_dark, start_white}
 use Rattle.buck_record.specs.writing.Line.{item_text}
 
 -- a byte that isn't a tilde
@@ -33,28 +32,56 @@ IsPlain b = is_tilde b ≡ false
 digit_plain : (c : ℕ) → is_ascii_digit c ≡ true → is_tilde c ≡ false
 digit_plain c h = grind (arith, nat_tests)
 
-pub white_plain : (c : ℕ) → is_white c ≡ true → is_tilde c ≡ false
+white_plain : (c : ℕ) → is_white c ≡ true → is_tilde c ≡ false
 white_plain c h = grind (arith, nat_tests)
+
+ends_append : (xs zs : List ℕ) → EndsDark zs → EndsDark (xs ++ zs)
+ends_append xs zs h = grind (arith, common_steps)
+
+starts_append : (xs zs : List ℕ) → StartsDark xs → StartsDark (xs ++ zs)
+starts_append [] zs h = absurd (let pos = h.0 in omega arith)
+starts_append (x ∷ xs) zs h = (omega arith, h.1)
+
+-- what an item may say: no tilde, and no whitespace byte at its ends
+pub record IsSaid (rest : List ℕ) : Type 0 where
+  pub starts : StartsDark rest
+  pub ends : EndsDark rest
+  pub plain : All IsPlain rest
+
+trimmed : (rest : List ℕ) → IsSaid rest → trim rest ≡ rest
+trimmed rest h = trim_dark rest h.starts h.ends
 
 module _ (n : ℕ) (lt : n < 2 ^ 64) where
   digits : (k : ℕ) → k < length (decimal n) → is_ascii_digit (get_or (decimal n) k 0) ≡ true
   digits k l = AllPass-from_list_all is_ascii_digit (decimal n) (digits_decimal numeral n lt) k 0 l
 
-  pub ends_decimal : EndsDark (decimal n)
-  ends_decimal = grind (arith, decimal_nonempty, digit_dark, digits)
+  pub decimal_said : IsSaid (decimal n)
+  decimal_said = record {
+    starts = (decimal_nonempty n lt, digit_dark (get_or (decimal n) 0 0) (digits 0 (decimal_nonempty n lt)));
+    ends = grind (arith, decimal_nonempty, digit_dark, digits);
+    plain = grind (arith, common_steps, digit_plain, digits_decimal, numeral);
+  }
 
-  pub starts_decimal : StartsDark (decimal n)
-  starts_decimal = (decimal_nonempty n lt, digit_dark (get_or (decimal n) 0 0) (digits 0 (decimal_nonempty n lt)))
+  -- a number and a whitespace byte before what may be said
+  module _ (w : ℕ) (white : is_white w ≡ true) (rest : List ℕ) where
+    pub said_after : IsSaid rest → IsSaid (decimal n ++ w ∷ rest)
+    said_after h = record {
+      starts = starts_append (decimal n) (w ∷ rest) decimal_said.starts;
+      ends = ends_append (decimal n) (w ∷ rest) (ends_append (w ∷ []) rest h.ends);
+      plain = All-append IsPlain (decimal n) (w ∷ rest) decimal_said.plain
+          (All-cons IsPlain w rest (white_plain w white) h.plain);
+    }
 
-  pub plain_decimal : All IsPlain (decimal n)
-  plain_decimal = grind (arith, common_steps, digit_plain, digits_decimal, numeral)
-
-pub ends_append : (xs zs : List ℕ) → EndsDark zs → EndsDark (xs ++ zs)
-ends_append xs zs h = grind (arith, common_steps)
-
-pub starts_append : (xs zs : List ℕ) → StartsDark xs → StartsDark (xs ++ zs)
-starts_append [] zs h = absurd (let pos = h.0 in omega arith)
-starts_append (x ∷ xs) zs h = (omega arith, h.1)
+    number_word : (first_word (decimal n ++ w ∷ rest) ≡ decimal n) × (after_word (decimal n ++ w ∷ rest) ≡ rest)
+    unfolding first_word after_word
+    number_word =
+        let xs = decimal n in
+        let p : position_or_len is_white (xs ++ w ∷ rest) ≡ length xs =
+        position_or_len_is is_white (xs ++ w ∷ rest) (length xs) 0 (omega (arith, length-append xs (w ∷ rest)))
+        (λ k l. rw (get_or_append_left xs (w ∷ rest) 0 k l) (dark n lt k 0 l))
+        (λ _. rw (get_or-append_seam xs w rest 0) white) in
+        rw p
+        (take-append_seam xs (w ∷ rest), rw append_assoc at (drop_at (xs ++ w ∷ []) rest (length xs + 1) (length_push xs w)))
 
 -- a line feed before the parts of a file makes no difference
 feed_first : (parts : List (List ℕ)) → filled_parts (onto_first 10 parts) ≡ filled_parts parts
@@ -73,82 +100,34 @@ unfolding each_from trim_start trim_end
 no_items k = refl
 
 -- a part that is an item, and a tilde, before the others
-part_says : (part left : List ℕ) (item : ItemParts) (items : List ItemParts) → All IsPlain part
-    → trim part ≡ part → 0 < length part → item_of part ≡ Some item
-    → HasItems left items → HasItems (part ++ 126 ∷ left) (item ∷ items)
+part_says : (part left : List ℕ) (item : ItemParts) (items : List ItemParts) → IsSaid part → trim part ≡ part
+    → item_of part ≡ Some item → HasItems left items → HasItems (part ++ 126 ∷ left) (item ∷ items)
 unfolding each_from
-part_says part left item items plain trimmed some is h = grind (arith, slice_split_at, cond-true, lt-ltb)
+part_says part left item items said same is h = grind (arith, slice_split_at, cond-true, lt-ltb)
 
--- the first word of a text, and what is after it
-word_of : (xs : List ℕ) (w : ℕ) (ys : List ℕ) → is_white w ≡ true → All (λ b. is_white b ≡ false) xs
-    → (first_word (xs ++ w ∷ ys) ≡ xs) × (after_word (xs ++ w ∷ ys) ≡ ys)
-unfolding first_word after_word
-word_of xs w ys white dark =
-    let n : position_or_len is_white (xs ++ w ∷ ys) ≡ length xs =
-    position_or_len_is is_white (xs ++ w ∷ ys) (length xs) 0 (omega (arith, length-append xs (w ∷ ys)))
-    (λ k lt. rw (get_or_append_left xs (w ∷ ys) 0 k lt) (dark k 0 lt)) (λ _. rw (get_or-append_seam xs w ys 0) white) in
-    rw n (take-append_seam xs (w ∷ ys), rw append_assoc at (drop_at (xs ++ w ∷ []) ys (length xs + 1) (length_push xs w)))
-
-number_word : (n w : ℕ) (ys : List ℕ) → n < 2 ^ 64 → is_white w ≡ true
-    → (first_word (decimal n ++ w ∷ ys) ≡ decimal n) × (after_word (decimal n ++ w ∷ ys) ≡ ys)
-number_word n w ys lt white = word_of (decimal n) w ys white (dark n lt)
-
--- what an item may say: no tilde, and no whitespace byte at its ends
-pub record IsSaid (rest : List ℕ) : Type 0 where
-  pub starts : StartsDark rest
-  pub ends : EndsDark rest
-  pub plain : All IsPlain rest
-
-module _ (s : Slot) (n : s.number ≤ 65535) (k : s.kind ≤ 65535) (w : ℕ) (white : is_white w ≡ true) (rest : List ℕ)
-    (h : IsSaid rest) where
-  kind_part : List ℕ
-  kind_part = decimal s.kind ++ w ∷ rest
-
-  whole : List ℕ
-  whole = decimal s.number ++ 32 ∷ kind_part
-
-  kind_trimmed : trim kind_part ≡ kind_part
-  unfolding kind_part
-  kind_trimmed =
-      trim_dark kind_part (starts_append (decimal s.kind) (w ∷ rest) (starts_decimal s.kind (omega arith)))
-      (ends_append (decimal s.kind) (w ∷ rest) (ends_append (w ∷ []) rest h.ends))
-
-  whole_trimmed : trim whole ≡ whole
-  unfolding whole kind_part
-  whole_trimmed =
-      trim_dark whole (starts_append (decimal s.number) (32 ∷ kind_part) (starts_decimal s.number (omega arith)))
-      (ends_append (decimal s.number) (32 ∷ kind_part)
-      (ends_append (32 ∷ decimal s.kind) (w ∷ rest) (ends_append (w ∷ []) rest h.ends)))
-
-  whole_item : item_of whole ≡ Some (item_in s rest)
-  unfolding item_of whole kind_part
-  whole_item =
-      rw (
-        (number_word s.number 32 kind_part (omega arith) refl).0,
-        number-decimal 65535 s.number n (omega arith),
-        (number_word s.number 32 kind_part (omega arith) refl).1,
-        kind_trimmed,
-        (number_word s.kind w rest (omega arith) white).0,
-        number-decimal 65535 s.kind k (omega arith),
-        (number_word s.kind w rest (omega arith) white).1,
-        trim_dark rest h.starts h.ends,
-      ) refl
-
-  whole_plain : All IsPlain whole
-  unfolding whole kind_part
-  whole_plain =
-      All-append IsPlain (decimal s.number) (32 ∷ kind_part) (plain_decimal s.number (omega arith))
-      (All-cons IsPlain 32 kind_part refl
-      (All-append IsPlain (decimal s.kind) (w ∷ rest) (plain_decimal s.kind (omega arith))
-      (All-cons IsPlain w rest (white_plain w white) h.plain)))
-
-  -- an item's line, before the items of another text
-  pub line_says : (head more : List ℕ) (items : List ItemParts) → head ≡ decimal s.number ++ 32 ∷ decimal s.kind
-      → HasItems more items → HasItems (item_text head (w ∷ rest) ++ more) (item_in s rest ∷ items)
-  unfolding whole kind_part
-  line_says head more items is has =
-      let text : whole ++ 126 ∷ 10 ∷ more ≡ item_text head (w ∷ rest) ++ more = rw is (simp append_assoc) in
-      subst (λ t. HasItems t (item_in s rest ∷ items)) text
-      (part_says whole (10 ∷ more) (item_in s rest) items whole_plain whole_trimmed
-      (omega (arith, decimal_nonempty s.number (omega arith), length-append (decimal s.number) (32 ∷ kind_part)))
-      whole_item (after_feed more items has))
+-- an item's line, before the items of another text
+pub line_says : (s : Slot) → s.number ≤ 65535 → s.kind ≤ 65535 → (w : ℕ) → is_white w ≡ true → (rest : List ℕ)
+    → IsSaid rest → (head more : List ℕ) (items : List ItemParts) → head ≡ decimal s.number ++ 32 ∷ decimal s.kind
+    → HasItems more items → HasItems (item_text head (w ∷ rest) ++ more) (item_in s rest ∷ items)
+unfolding item_of
+line_says s n k w white rest h head more items is has =
+    let kind = decimal s.kind ++ w ∷ rest in
+    let whole = decimal s.number ++ 32 ∷ kind in
+    let kind_said = said_after s.kind (omega arith) w white rest h in
+    let said = said_after s.number (omega arith) 32 refl kind kind_said in
+    let number_first = number_word s.number (omega arith) 32 refl kind in
+    let kind_first = number_word s.kind (omega arith) w white rest in
+    let item : item_of whole ≡ Some (item_in s rest) =
+    rw (
+      number_first.0,
+      number-decimal 65535 s.number n (omega arith),
+      number_first.1,
+      trimmed kind kind_said,
+      kind_first.0,
+      number-decimal 65535 s.kind k (omega arith),
+      kind_first.1,
+      trimmed rest h,
+    ) refl in
+    let text : whole ++ 126 ∷ 10 ∷ more ≡ item_text head (w ∷ rest) ++ more = rw is (simp append_assoc) in
+    subst (λ t. HasItems t (item_in s rest ∷ items)) text
+    (part_says whole (10 ∷ more) (item_in s rest) items said (trimmed whole said) item (after_feed more items has))

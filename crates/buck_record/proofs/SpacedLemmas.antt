@@ -9,7 +9,7 @@ unfoldable use Rattle.buck_record.specs.bytes.White.{trim_start, trim_end, words
 unfoldable use Rattle.buck_record.specs.bytes.Record.{numbers_of}
 use Rattle.buck_record.proofs.RoundLemmas.{AreWhite, smaller, split-spaced, numbers_worded}
 unfoldable use Rattle.buck_record.specs.writing.Written.{spaced}
-use Rattle.buck_record.proofs.LineLemmas.{IsPlain, IsSaid, ends_decimal, starts_decimal, plain_decimal, ends_append, starts_append, white_plain}
+use Rattle.buck_record.proofs.LineLemmas.{IsSaid, decimal_said, said_after}
 use Rattle.buck_record.proofs.WhiteLemmas.{StartsDark, EndsDark, trim_cases}
 
 -- what an item of numbers says, without the whitespace byte after the head
@@ -20,31 +20,16 @@ abbrev pub AreSmall : List ℕ → Type 0
 AreSmall ns = AllByRecursion (λ n. n ≤ 4294967295) ns
 
 module _ (white : ℕ → ℕ) (w : AreWhite white) where
-  ends_spaced : (xs : List ℕ) (k : ℕ) (ns : List ℕ) → AllByRecursion (λ n. n < 2 ^ 64) ns → EndsDark xs
-      → EndsDark (xs ++ spaced white k ns)
+  said_from : (k n : ℕ) (ns : List ℕ) → n < 2 ^ 64 → AllByRecursion (λ n. n < 2 ^ 64) ns
+      → IsSaid (decimal n ++ spaced white k ns)
   unfolding spaced
-  ends_spaced xs k [] h e = subst EndsDark (sym (append-nil xs)) e
-  ends_spaced xs k (n ∷ ns) h e =
-      subst EndsDark (append_assoc xs (white k ∷ decimal n) (spaced white (k + 1) ns))
-      (ends_spaced (xs ++ white k ∷ decimal n) (k + 1) ns h.1
-      (ends_append xs (white k ∷ decimal n) (ends_append (white k ∷ []) (decimal n) (ends_decimal n h.0))))
-
-  plain_spaced : (k : ℕ) (ns : List ℕ) → AllByRecursion (λ n. n < 2 ^ 64) ns → All IsPlain (spaced white k ns)
-  unfolding spaced
-  plain_spaced k [] h = All-nil IsPlain
-  plain_spaced k (n ∷ ns) h =
-      All-cons IsPlain (white k) (decimal n ++ spaced white (k + 1) ns) (white_plain (white k) (w k))
-      (All-append IsPlain (decimal n) (spaced white (k + 1) ns) (plain_decimal n h.0) (plain_spaced (k + 1) ns h.1))
+  said_from k n [] lt h = rw (append-nil (decimal n)) (decimal_said n lt)
+  said_from k n (m ∷ ms) lt h =
+      said_after n lt (white k) (w k) (decimal m ++ spaced white (k + 1) ms) (said_from (k + 1) m ms h.0 h.1)
 
   pub numbers_are_said : (n : ℕ) (ns : List ℕ) → AreSmall (n ∷ ns) → IsSaid (said white (n ∷ ns))
   unfolding spaced
-  numbers_are_said n ns h =
-      let lt = smaller (n ∷ ns) h in
-      record {
-        starts = starts_append (decimal n) (spaced white 1 ns) (starts_decimal n lt.0);
-        ends = ends_spaced (decimal n) 1 ns lt.1 (ends_decimal n lt.0);
-        plain = All-append IsPlain (decimal n) (spaced white 1 ns) (plain_decimal n lt.0) (plain_spaced 1 ns lt.1);
-      }
+  numbers_are_said n ns h = let lt = smaller (n ∷ ns) h in said_from 1 n ns lt.0 lt.1
 
   pub spaced_said : (n : ℕ) (ns : List ℕ) → spaced white 0 (n ∷ ns) ≡ white 0 ∷ said white (n ∷ ns)
   unfolding spaced

@@ -3,17 +3,17 @@ use Rattle.std.proofs.Common.{◌≡◌, ℕ, ◌+◌, ◌-◌, ◌<◌, Bool, f
 use Rattle.std.specs.List.{suffix_len, prefix_len}
 use Rattle.std.proofs.Math.Nat.{add-zero}
 use Rattle.std.proofs.lemmas.Bool.{cases_lt}
+use Rattle.std.proofs.lemmas.Grind.{common_steps}
 use Rattle.std.proofs.lemmas.List.{take_all, get_or-take, take-take, length-take-le, length-drop, get_or-drop, drop_all, get_or-reverse, length-reverse}
 use Rattle.std.proofs.lemmas.List.Sums.{suffix_len_is, suffix_len-take_yes, prefix_len_stops}
 use Rattle.buck_record.specs.bytes.White.{is_white, trim}
 unfoldable use Rattle.buck_record.specs.bytes.White.{trim_start, trim_end}
-use Rattle.buck_record.proofs.WordLemmas.{start_white}
-
-pub no_true : (b : Bool) → (b ≡ true → ⊥) → b ≡ false
-no_true true h = absurd (h refl)
-no_true false h = refl
 
 -- a white byte at the start of a text, and one at its end
+pub start_white : (w : ℕ) (xs : List ℕ) → is_white w ≡ true → trim_start (w ∷ xs) ≡ trim_start xs
+unfolding trim_start
+start_white w xs h = grind (arith, common_steps)
+
 pub start_past : (xs : List ℕ) → 0 < length xs → is_white (get_or xs 0 0) ≡ true
     → trim_start (take (length xs - 1) (drop 1 xs)) ≡ trim_start xs
 start_past [] some white = absurd (omega arith)
@@ -51,7 +51,7 @@ pub trim_dark : (xs : List ℕ) → StartsDark xs → EndsDark xs → trim xs �
 trim_dark xs s e = ap trim_end (start_dark xs (λ _. s.1)) ∙ end_dark xs (λ _. e.1)
 
 -- a text without whitespace at its start is empty, or begins with another byte
-start_cases : (xs : List ℕ) → (trim_start xs ≡ []) ⊎ StartsDark (trim_start xs)
+pub start_cases : (xs : List ℕ) → (trim_start xs ≡ []) ⊎ StartsDark (trim_start xs)
 unfolding trim_start
 start_cases xs =
     let n = prefix_len is_white xs in

@@ -10,6 +10,8 @@ use Rattle.buck_record.specs.bytes.White.{is_white, is_filled}
 unfoldable use Rattle.buck_record.specs.bytes.White.{trim_start, trim_end, first_word, after_word, words}
 use Rattle.buck_record.specs.bytes.Record.{is_tilde, filled_parts, pieces}
 
+use Rattle.buck_record.proofs.WhiteLemmas.{start_white, start_cases}
+
 pub bounded : {X : Type 0} (p : X → Bool) (xs : List X) → position_or_len p xs ≤ length xs
 bounded p xs = prefix_len-le-length (λ x. not (p x)) xs
 
@@ -39,10 +41,6 @@ pieces_none (b ∷ bs) h = absurd (omega arith)
 pub words-cons_white : (b : ℕ) (bs : List ℕ) → is_white b ≡ true → words (b ∷ bs) ≡ words bs
 unfolding words
 words-cons_white b bs h = ap (filter is_filled) (slice_split-cons_yes is_white b bs h)
-
-pub start_white : (w : ℕ) (xs : List ℕ) → is_white w ≡ true → trim_start (w ∷ xs) ≡ trim_start xs
-unfolding trim_start
-start_white w xs h = grind (arith, common_steps)
 
 pub words-trim_start : (bs : List ℕ) → words (trim_start bs) ≡ words bs
 unfolding trim_start
@@ -77,12 +75,10 @@ filled_word (b ∷ bs) some dark =
     rw dark (omega (arith, length-take-le (1 + position_or_len is_white bs) (b ∷ bs) (omega (arith, bounded is_white bs))))
 
 start_filled : (bs : List ℕ) → 0 < length (trim_start bs) → 0 < length (first_word (trim_start bs))
-unfolding trim_start
-start_filled [] h = absurd (omega arith)
-start_filled (b ∷ bs) h =
-    elim (cases_Bool (is_white b)) [
-      | inl white ↦ rw (start_white b bs white) (start_filled bs (rw (start_white b bs white) at h))
-      | inr dark ↦ rw dark (filled_word (b ∷ bs) (omega arith) dark)
+start_filled bs h =
+    elim (start_cases bs) [
+      | inl none ↦ absurd (omega (arith, h, ap length none))
+      | inr dark ↦ filled_word (trim_start bs) dark.0 dark.1
     ]
 
 pub words_first : (bs : List ℕ) → 0 < length (trim_start bs)
