@@ -1,13 +1,13 @@
 -- The draft that says a valid instruction passes all lines of refusals, and the text of the instruction is read again.
-use Rattle.std.proofs.Common.{◌≡◌, ℕ, ◌+◌, ◌*◌, ◌<◌, ◌≤◌, ◌%◌, ◌==◌, ◌++◌, ◌∙◌, filter, inl, inr, Bool, true, false, List, [], ◌∷◌, All, Ok, None, length, map, sum, slice_index, refl, sym, ap, arith, eq-eqb, nat_lt, add-one, subst}
+use Rattle.std.proofs.Common.{suc, ◌≡◌, ℕ, ◌+◌, ◌*◌, ◌≤◌, ◌%◌, ◌==◌, filter, inl, inr, Bool, true, false, List, [], ◌∷◌, All, Ok, None, length, map, sum, refl, sym, ap, arith, eq-eqb, nat_lt}
 use Rattle.std.specs.Prelude.{position}
 use Rattle.std.specs.List.{AllByRecursion, list_all, position_or_len, flat_map}
 use Rattle.std.specs.List.Sorted.{IsStrictlyIncreasing}
 use Rattle.std.proofs.lemmas.Bool.{cases_Bool, le-leb, lt-ltb, le-ltb, and_from, cond-false}
 use Rattle.std.proofs.lemmas.Bool.Decides.{nat_tests}
 use Rattle.std.proofs.lemmas.List.{length-map}
-use Rattle.std.proofs.lemmas.List.Elements.{recursion_from_All, filter-append}
-use Rattle.std.proofs.lemmas.List.Sums.{list_all-from_AllPass}
+use Rattle.std.proofs.lemmas.List.Elements.{recursion_from_All, All-map}
+use Rattle.std.proofs.lemmas.List.Sums.{list_all-from_AllPass, position_or_len_is}
 use Rattle.buck_record.specs.checking.Rules.{within, all_within, is_rising}
 use Rattle.buck_apt.specs.declared.fault.AptFault.TheVariants.{Module}
 use Rattle.buck_apt.specs.declared.slots.TheConstants.{LONGEST_NAME, MOST_GRADES, MOST_ROWS, MOST_COLUMNS, MOST_TARGETS_TOGETHER}
@@ -44,9 +44,7 @@ rising_from (n ∷ []) h = refl
 rising_from (m ∷ n ∷ ns) h =
     and_from _ _ (lt-ltb m n (h 0 (omega arith)))
     (rising_from (n ∷ ns)
-    (λ k lt. subst (λ q. slice_index (n ∷ ns) k < slice_index (m ∷ n ∷ ns) q) (add-one (k + 1))
-    (subst (λ p. slice_index (m ∷ n ∷ ns) p < slice_index (m ∷ n ∷ ns) (k + 1 + 1)) (add-one k)
-    (h (k + 1) (omega arith)))))
+    (λ k lt. let one : suc k + 1 ≡ suc (k + 1) = omega arith in rw one at (h (suc k) (omega arith))))
 
 module _ (a : AssortmentParts) (h : IsAssortment a) where
   range_again : draft_range (draft_for a) ≡ Ok tt
@@ -91,30 +89,20 @@ module _ (a : AssortmentParts) (h : IsAssortment a) where
         eq-eqb (length a.targets) (length a.diameters * length a.lengths) h.targets_number,
       ) refl
 
-  targets_few : nat_lt MOST_TARGETS_TOGETHER (sum a.targets) ≡ false
-  targets_few = le-ltb _ _ h.targets_sum
-
 off_none : (step : ℕ) (lengths : List ℕ) → AllByRecursion (λ l. l % step ≡ 0) lengths
     → first_off_module step lengths ≡ None
 off_none step [] h = refl
 off_none step (l ∷ ls) h = rw (eq-eqb (l % step) 0 h.0) (off_none step ls h.1)
 
-too_many : Draft → Bool
+none_at : {X : Type 0} (p : X → Bool) (xs : List X) → All (λ x. p x ≡ false) xs → position p xs ≡ None
+none_at p [] h = refl
+none_at p (x ∷ xs) h =
+    let all = position_or_len_is p (x ∷ xs) (length (x ∷ xs)) x (omega arith) (λ k lt. h k x lt)
+    (λ lt. absurd (omega arith)) in
+    let none : length (x ∷ xs) ≤ position_or_len p (x ∷ xs) = omega arith in cond-false _ _ _ (le-ltb _ _ none)
+
+abbrev too_many : Draft → Bool
 too_many d = nat_lt MOST_TARGETS_TOGETHER (sum d.targets)
-
-few_before : (rest : List AssortmentParts) → AllByRecursion IsAssortment rest
-    → position_or_len too_many (map draft_for rest) ≡ length (map draft_for rest)
-unfolding too_many
-few_before [] h = refl
-few_before (a ∷ rest) h = let more = few_before rest h.1 in rw (targets_few a h.0) (omega (arith, more))
-
-few_targets : (rest : List AssortmentParts) → AllByRecursion IsAssortment rest
-    → position (λ d. nat_lt MOST_TARGETS_TOGETHER (sum d.targets)) (map draft_for rest) ≡ None
-unfolding too_many
-few_targets rest h =
-    let none : length (map draft_for rest) ≤ position_or_len too_many (map draft_for rest) =
-    let e = few_before rest h in omega arith in
-    cond-false _ _ _ (le-ltb _ _ none)
 
 said_back : (rest : List AssortmentParts) → map assortment_of (map draft_for rest) ≡ rest
 said_back [] = refl
@@ -151,7 +139,11 @@ module _ (i : InstructionParts) (h : IsInstruction i) where
 
   targets_again : in_targets (file_draft_for i) ≡ Ok tt
   unfolding in_targets
-  targets_again = rw (few_targets i.assortments (recursion_from_All IsAssortment i.assortments h.assortments_valid)) refl
+  targets_again =
+      let few : All (λ d. too_many d ≡ false) (map draft_for i.assortments) =
+      All-map (λ d. too_many d ≡ false) draft_for i.assortments
+      (λ k d lt. le-ltb _ _ (h.assortments_valid k d lt).targets_sum) in
+      rw (none_at too_many (map draft_for i.assortments) few) refl
 
   limits_again : within_limits (file_draft_for i) ≡ Ok tt
   unfolding within_limits
@@ -163,23 +155,16 @@ module _ (i : InstructionParts) (h : IsInstruction i) where
       (said_back i.assortments)
 
 -- all items of the text stand in slots of the table
-kept_assortment : (a : AssortmentParts) → filter (is_in table) (assortment_items a) ≡ assortment_items a
-unfolding member_items
-kept_assortment a = elim (cases_Bool (a.trim == 0)) [ inl none ↦ rw none refl | inr some ↦ rw some refl ]
-
-kept_assortments : (rest : List AssortmentParts)
+kept : (rest : List AssortmentParts)
     → filter (is_in table) (flat_map assortment_items rest) ≡ flat_map assortment_items rest
-kept_assortments [] = refl
-kept_assortments (a ∷ rest) =
-    filter-append (is_in table) (assortment_items a) (flat_map assortment_items rest)
-    ∙ ap (λ xs. xs ++ filter (is_in table) (flat_map assortment_items rest)) (kept_assortment a)
-    ∙ ap (λ xs. assortment_items a ++ xs) (kept_assortments rest)
+unfolding member_items
+kept [] = refl
+kept (a ∷ rest) =
+    elim (cases_Bool (a.trim == 0)) [ inl none ↦ rw (none, kept rest) refl | inr some ↦ rw (some, kept rest) refl ]
 
 all_kept : (i : InstructionParts) → filter (is_in table) (items_in i) ≡ items_in i
 unfolding head_items
-all_kept i =
-    filter-append (is_in table) (head_items i) (flat_map assortment_items i.assortments)
-    ∙ ap (λ xs. head_items i ++ xs) (kept_assortments i.assortments)
+all_kept i = rw (kept i.assortments) refl
 
 -- the text of an instruction is read again as the instruction
 pub text_again : (i : InstructionParts) → IsInstruction i → apt_of (text_of i) ≡ Ok i

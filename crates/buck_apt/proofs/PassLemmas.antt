@@ -1,7 +1,7 @@
 -- What the lines of refusals that passed say: the numbers are within the limits.
-use Rattle.std.proofs.Common.{◌≡◌, ℕ, ◌*◌, ◌<◌, ◌≤◌, Bool, true, false, not, List, [], ◌∷◌, ◌==◌, Ok, Option, Some, None, length, sum, slice_index, refl, sym, ◌∙◌, arith, eqb-true, All, zero, suc, add-one, inl, inr, nat_lt}
+use Rattle.std.proofs.Common.{rules, ◌≡◌, ℕ, ◌*◌, ◌<◌, ◌≤◌, Bool, true, false, List, [], ◌∷◌, ◌==◌, Ok, Option, Some, None, length, sum, slice_index, refl, arith, eqb-true, All, zero, suc, add-one, nat_lt}
 use Rattle.std.proofs.Common.{◌%◌}
-use Rattle.std.specs.Prelude.{position, find}
+use Rattle.std.specs.Prelude.{position}
 use Rattle.std.specs.List.{AllByRecursion, list_all}
 use Rattle.std.specs.List.Sorted.{IsStrictlyIncreasing}
 use Rattle.std.proofs.lemmas.Bool.Decides.{nat_tests}
@@ -9,7 +9,7 @@ use Rattle.std.proofs.lemmas.List.Elements.{All-from_recursion, All-map}
 use Rattle.std.proofs.lemmas.List.{length-map}
 use Rattle.std.proofs.lemmas.List.Sums.{AllPass-from_list_all, fails_before_first}
 use Rattle.buck_record.proofs.TableLemmas.{place-none}
-use Rattle.std.proofs.lemmas.Bool.{false≢true, ltb-true, ltb-false, cases_Bool, cond-true, cond-false}
+use Rattle.std.proofs.lemmas.Bool.{ltb-true, ltb-false}
 use Rattle.buck_record.specs.declared.slot.Slot.{Slot}
 use Rattle.buck_record.specs.checking.Rules.{one_to, is_rising}
 use Rattle.buck_record.proofs.PassLemmas.{AreRanged, passed, check_ok, then_ok, each_ok, both, within_ok, in_range_ok, ranged, counted_ok, counted}
@@ -36,10 +36,6 @@ one_of item ns h one = h 0 0 (omega arith)
 one_number : (ns : List ℕ) → (1 ≤ length ns) × (length ns ≤ 1) → length ns ≡ 1
 one_number ns h = omega (arith, h)
 
-not_false : (b : Bool) → not b ≡ false → b ≡ true
-not_false true h = refl
-not_false false h = absurd (false≢true (sym h))
-
 name_byte_ok : (b : ℕ) → is_name_byte b ≡ true → IsNameByte b
 name_byte_ok b h = grind (arith, nat_tests)
 
@@ -64,16 +60,10 @@ none_found_ok : (o : Option ℕ) (fault : ℕ → AptFault) → none_found o fau
 none_found_ok None fault h = refl
 none_found_ok (Some n) fault h = cc
 
-find_rec : {X : Type 0} (p : X → Bool) (xs : List X) → find p xs ≡ None → AllByRecursion (λ x. p x ≡ false) xs
-find_rec p [] h = tt
-find_rec p (x ∷ xs) h =
-    elim (cases_Bool (p x)) [
-      | inl found ↦ let s : find p (x ∷ xs) ≡ Some x = cond-true _ _ _ found in cc
-      | inr other ↦ (other, find_rec p xs (sym (cond-false _ _ _ other) ∙ h))
-    ]
-
-find_none : {X : Type 0} (p : X → Bool) (xs : List X) → find p xs ≡ None → All (λ x. p x ≡ false) xs
-find_none p xs h = All-from_recursion _ xs (find_rec p xs h)
+all_on : (step : ℕ) (lengths : List ℕ) → first_off_module step lengths ≡ None
+    → AllByRecursion (λ l. l % step ≡ 0) lengths
+all_on step [] h = tt
+all_on step (l ∷ ls) h = let more = all_on step ls in grind (arith, nat_tests, more)
 
 position_none : {X : Type 0} (p : X → Bool) (xs : List X) → position p xs ≡ None → All (λ x. p x ≡ false) xs
 position_none p xs h = λ k d lt. fails_before_first p xs k d (omega (arith, place-none p xs h))
@@ -106,6 +96,8 @@ draft_ready d named in_ranges ordered counted_all few =
     let c7 = passed (length d.prices == length d.diameters * length d.lengths) _ _ c6.1 in
     let c8 = passed (length d.targets == length d.diameters * length d.lengths) _ _ c7.1 in
     let name = both (one_to LONGEST_NAME (length d.name)) (list_all is_name_byte d.name) r1.0 in
+    let names : All (λ b. IsNameByte b) d.name =
+    λ k b lt. name_byte_ok _ (AllPass-from_list_all is_name_byte d.name name.1 k b lt) in
     let species = one_number d.species c1.0 in
     let price_kind = one_number d.price_kind c3.0 in
     let upper = one_number d.upper c5.0 in
@@ -115,37 +107,20 @@ draft_ready d named in_ranges ordered counted_all few =
       price_kind = price_kind;
       upper = upper;
       trim = trim;
-      valid = record {
-        name_length = within_ok 1 LONGEST_NAME (length d.name) name.0;
-        name_bytes = λ k b lt. name_byte_ok _ (AllPass-from_list_all is_name_byte d.name name.1 k b lt);
-        name_trimmed = named;
-        species = one_of SPECIES d.species r2.0 species;
-        grades_number = c2.0;
-        grades_range = r3.0;
-        grades_rise = rising_ok d.grades o1.0;
-        price_kind = one_of PRICE_KIND d.price_kind r4.0 price_kind;
-        rows = c4.0;
-        diameters_range = λ k x lt. (r5.0 k x lt).1;
-        diameters_rise = rising_ok d.diameters o2.0;
-        upper_range = one_of UPPER d.upper r6.0 upper;
-        upper_above = above_ok d.diameters d.upper o3.0 upper;
-        columns = c6.0;
-        lengths_range = r7.0;
-        lengths_rise = rising_ok d.lengths o4;
-        prices_number = eqb-true _ _ c7.0;
-        prices_range = λ k x lt. (r8.0 k x lt).1;
-        targets_number = eqb-true _ _ c8.0;
-        targets_range = λ k x lt. (r9.0 k x lt).1;
-        targets_sum = few;
-        trim_range = (one_of TRIM d.trim r10 trim).1;
-      };
+      valid =
+          search (
+            rules, named, few, c2.0, c4.0, c6.0, r3.0, r5.0, r7.0, r8.0, r9.0,
+            within_ok 1 LONGEST_NAME (length d.name) name.0, names, above_ok d.diameters d.upper o3.0 upper,
+            one_of SPECIES d.species r2.0 species, one_of PRICE_KIND d.price_kind r4.0 price_kind,
+            one_of UPPER d.upper r6.0 upper, one_of TRIM d.trim r10 trim,
+            rising_ok d.grades o1.0, rising_ok d.diameters o2.0, rising_ok d.lengths o4,
+            eqb-true (length d.prices) _ c7.0, eqb-true (length d.targets) _ c8.0,
+          );
     }
 
 lengths_ok : (step : ℕ) (lengths : List ℕ) → none_found (first_off_module step lengths) Module ≡ Ok tt
     → All (λ l. l % step ≡ 0) lengths
-lengths_ok step lengths h =
-    λ k d lt. eqb-true _ _
-    (not_false _ (find_none (λ l. not (l % step == 0)) lengths (none_found_ok _ Module h) k d lt))
+lengths_ok step lengths h = All-from_recursion _ lengths (all_on step lengths (none_found_ok _ Module h))
 
 -- what the ninth line requires
 pub module_single : (s : FileDraft) → in_number s ≡ Ok tt → length s.«module» ≡ 1
