@@ -3,91 +3,65 @@ ghost use Rattle.std.specs.Prelude.{◌≡◌, ◌∷◌, []};
 ghost use Rattle.buck_stem.specs.file.Faults.{stm_numbers};
 ghost use Rattle.buck_stem.specs.declared.file.fault.StmFault.TheVariants.{Memory, Head, Missing, Twice, Digits, Range, Order, Count};
 
-use buck_record::text::write_fields;
 use buck_record::{FaultNumbers, FormFault, Numbered, Slot};
 use std::alloc::{AllocError, AllocFailed};
-use std::error::Error;
-use std::fmt;
+use thiserror::Error;
 
 /// Why a stem file is refused: the first refusal that applies to its bytes, in this order, and within it the first item
 /// in the order of the file's table. `number` and `kind` are those of the item's head, 0 to 65,535.
-#[derive(Clone, Copy, Debug, PartialEq, Eq)]
+#[derive(Clone, Copy, Debug, PartialEq, Eq, Error)]
 pub enum StmFault {
     /// The first item without a head of two numbers below 65,536: `item` counts from 1 in file order.
+    #[error("item {item} has no head")]
     Head {
         item: usize,
     },
     /// There is no item `1 2`, or the first one doesn't say `STM`.
+    #[error("the file is not one of stems")]
     NotStm,
     /// The item of this number and kind must be there and isn't. If an item of a stem stands before the first stem
     /// number, it is that number, `951 1`, that is missing.
+    #[error("item {number} {kind} is missing")]
     Missing {
         number: u16,
         kind: u16,
     },
     /// The item of this number and kind stands twice, in the file or in its stem.
+    #[error("item {number} {kind} stands twice")]
     Twice {
         number: u16,
         kind: u16,
     },
     /// A word of the item of this number and kind isn't a number below 4,294,967,296. `place` is the first such word,
     /// from 1.
+    #[error("word {place} of item {number} {kind} is not a number")]
     Digits {
         number: u16,
         kind: u16,
         place: usize,
     },
     /// The item of this number and kind has a number outside its range.
+    #[error("a number of item {number} {kind} is out of range")]
     Range {
         number: u16,
         kind: u16,
     },
     /// The item of this number and kind is a list against its order.
+    #[error("item {number} {kind} is out of order")]
     Order {
         number: u16,
         kind: u16,
     },
     /// The item of this number and kind has not as many numbers as it should have.
+    #[error("item {number} {kind} has another count of numbers")]
     Count {
         number: u16,
         kind: u16,
     },
     /// An allocation failed.
+    #[error("out of memory")]
     Memory,
 }
-
-impl StmFault {
-    /// The words before a fault's fields in its text, and those after them.
-    fn words(&self) -> (&'static str, &'static str) {
-        match self {
-            StmFault::Head { .. } => ("item", " has no head"),
-            StmFault::NotStm => ("the file is not one of stems", ""),
-            StmFault::Missing { .. } => ("item", " is missing"),
-            StmFault::Twice { .. } => ("item", " stands twice"),
-            StmFault::Digits { .. } => ("word", " is not a number"),
-            StmFault::Range { .. } => ("a number of item", " is out of range"),
-            StmFault::Order { .. } => ("item", " is out of order"),
-            StmFault::Count { .. } => ("item", " has another count of numbers"),
-            StmFault::Memory => ("out of memory", ""),
-        }
-    }
-}
-
-impl fmt::Display for StmFault {
-    fn fmt<W: fmt::Write>(&self, f: &mut fmt::Formatter<W>) -> fmt::Result {
-        let (before, after) = self.words();
-        match self {
-            StmFault::Digits {
-                number,
-                kind,
-                place,
-            } => write!(f, "{before} {place} of item {number} {kind}{after}"),
-            _ => write_fields(f, before, self, after),
-        }
-    }
-}
-
-impl Error for StmFault {}
 
 impl From<AllocError> for StmFault {
     ghost from_gives = { λ _ e. e ≡ Memory };
