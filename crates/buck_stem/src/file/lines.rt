@@ -1,20 +1,14 @@
 //! The lines of the order of refusals.
 ghost use Rattle.std.specs.Prelude.{◌≡◌, IfOk};
-ghost use Rattle.buck_record.specs.checking.Rules.{has_no_strays};
-ghost use Rattle.buck_stem.specs.declared.file.slots.TheConstants.{STEM, MEMBERS};
 ghost use Rattle.buck_stem.specs.inner.Ready.{IsReadyDraft};
 ghost use Rattle.buck_stem.specs.file.Stm.{
   groups,
-  stem_present,
   present,
-  stem_single,
   single,
   draft_range,
-  in_range,
   draft_order,
-  in_order,
   draft_count,
-  in_number,
+  checked,
 };
 
 use crate::file::draft::Draft;
@@ -28,45 +22,27 @@ use buck_record::rules::{FILE, all_in_range, counted_to};
 use buck_record::table::front;
 use buck_record::{FormFault, Group, Piece};
 
-/// No item of a stem stands before the first number.
-fn has_no_strays<'a>(items: &'a [Piece<'a>]) -> bool
-    ensures { result ≡ has_no_strays STEM MEMBERS items.now }
-{
-    all_absent(&MEMBERS, front(items, STEM))
-}
-
-#[tactic(auto, unfolding(crate::specs::file::Stm::stem_present))]
-fn stem_present<'a>(stem: &'a [Piece<'a>]) -> Result<(), StmFault>
-    ensures { result ≡ stem_present stem.now }
-{
-    all_there(&NEEDED, stem)
-}
-
 /// Each item that must be there is.
-#[tactic(auto, unfolding(crate::specs::file::Stm::present))]
+#[tactic(auto, unfolding(crate::specs::file::Stm::present, crate::specs::file::Stm::stem_present))]
 pub(crate) fn present<'a>(items: &'a [Piece<'a>], stems: &[Group<'_>]) -> Result<(), StmFault>
     requires { stems.now ≡ groups items.now }
     ensures { result ≡ present items.now }
 {
-    check(has_no_strays(items), StmFault::missing(STEM))?;
-    each(stems, |stem| stem_present(stem.items()))
-}
-
-#[tactic(auto, unfolding(crate::specs::file::Stm::stem_single))]
-fn stem_single<'a>(stem: &'a [Piece<'a>]) -> Result<(), StmFault>
-    ensures { result ≡ stem_single stem.now }
-{
-    all_single(&MEMBERS, stem)
+    check(
+        all_absent(&MEMBERS, front(items, STEM)),
+        StmFault::missing(STEM),
+    )?;
+    each(stems, |stem| all_there::<StmFault>(&NEEDED, stem.items()))
 }
 
 /// No item stands twice in the file or in its stem.
-#[tactic(auto, unfolding(crate::specs::file::Stm::single))]
+#[tactic(auto, unfolding(crate::specs::file::Stm::single, crate::specs::file::Stm::stem_single))]
 pub(crate) fn single<'a>(items: &'a [Piece<'a>], stems: &[Group<'_>]) -> Result<(), StmFault>
     requires { stems.now ≡ groups items.now }
     ensures { result ≡ single items.now }
 {
     all_single::<StmFault>(&[FILE], items)?;
-    each(stems, |stem| stem_single(stem.items()))
+    each(stems, |stem| all_single::<StmFault>(&MEMBERS, stem.items()))
 }
 
 #[tactic(auto, unfolding(crate::specs::file::Stm::draft_range))]
@@ -80,27 +56,11 @@ fn draft_range(draft: &Draft) -> Result<(), StmFault>
     check(grades_within(GRADES, zones), StmFault::range(ZONES))
 }
 
-/// Each number is in its range.
-#[tactic(auto, unfolding(crate::specs::file::Stm::in_range))]
-pub(crate) fn in_range(drafts: &[Draft]) -> Result<(), StmFault>
-    ensures { result ≡ in_range drafts.now }
-{
-    each(drafts, |draft| draft_range(draft))
-}
-
 #[tactic(auto, unfolding(crate::specs::file::Stm::draft_order))]
 fn draft_order(draft: &Draft) -> Result<(), StmFault>
     ensures { result ≡ draft_order draft.now }
 {
     check(starts_rise(draft.zones.as_slice()), StmFault::order(ZONES))
-}
-
-/// The starts of each stem's zones rise.
-#[tactic(auto, unfolding(crate::specs::file::Stm::in_order))]
-pub(crate) fn in_order(drafts: &[Draft]) -> Result<(), StmFault>
-    ensures { result ≡ in_order drafts.now }
-{
-    each(drafts, |draft| draft_order(draft))
 }
 
 #[tactic(auto, unfolding(crate::specs::file::Stm::draft_count))]
@@ -113,11 +73,13 @@ fn draft_count(draft: &Draft) -> Result<(), StmFault>
     check(is_count_of_zones(draft.zones.len()), StmFault::count(ZONES))
 }
 
-/// There are as many numbers as there should be.
-#[tactic(auto, unfolding(crate::specs::file::Stm::in_number))]
-pub(crate) fn in_number(drafts: &[Draft]) -> Result<(), StmFault>
-    ensures { result ≡ in_number drafts.now }
+/// Each stem's numbers are in range, in order and as many as there should be.
+#[tactic(auto, unfolding(crate::specs::file::Stm::checked, crate::specs::file::Stm::in_range, crate::specs::file::Stm::in_order, crate::specs::file::Stm::in_number))]
+pub(crate) fn checked(drafts: &[Draft]) -> Result<(), StmFault>
+    ensures { result ≡ checked drafts.now }
 {
+    each(drafts, |draft| draft_range(draft))?;
+    each(drafts, |draft| draft_order(draft))?;
     each(drafts, |draft| draft_count(draft))
 }
 

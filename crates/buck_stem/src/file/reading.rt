@@ -1,13 +1,13 @@
 //! The stems of a file.
-ghost use Rattle.std.specs.Prelude.{◌≡◌, ◌<◌, All, IfOk, map};
+ghost use Rattle.std.specs.Prelude.{◌≡◌, ◌≤◌, All, IfOk, map};
 ghost use Rattle.buck_record.specs.Reading.{Gives, listed};
 ghost use Rattle.buck_stem.specs.declared.file.fault.StmFault.TheVariants.{Memory};
-ghost use Rattle.buck_stem.specs.inner.Ready.{IsReadyDraft};
-ghost use Rattle.buck_stem.specs.file.Stm.{says_stm, drafts_in, checked, stm_of, parts_of};
+ghost use Rattle.buck_stem.specs.inner.Ready.{AreNumbers};
+ghost use Rattle.buck_stem.specs.file.Stm.{drafts_in, stm_of, parts_of};
 
 use crate::file::draft::{Draft, drafts_of};
 use crate::file::fault::StmFault;
-use crate::file::lines::{in_number, in_order, in_range, present, single};
+use crate::file::lines::{checked, present, single};
 use crate::file::plain::read_plain;
 use crate::file::rules::zones_of;
 use crate::file::slots::{STEM, TABLE};
@@ -18,16 +18,9 @@ use buck_record::table::{groups, rest};
 use buck_record::{Listed, Piece};
 use std::alloc::{AllocError, Global};
 
-/// The first item that names the kind of file says `STM`.
-fn says_stm<'a>(items: &'a [Piece<'a>]) -> bool
-    ensures { result ≡ says_stm items.now }
-{
-    rest(items, FILE) == b"STM".as_slice()
-}
-
 /// The samples as they are kept.
 fn samples_of(alloc: Global, numbers: &[u32]) -> Result<Vec<u16>, AllocError>
-    requires { All (λ n. n < 65536) numbers.now }
+    requires { All (λ n. n ≤ 1500) numbers.now }
     ensures { IfOk result (λ samples. samples.items ≡ numbers.now) }
 {
     // A copy, with no more room than it needs: a list that grew as it was read would keep room for about twice the
@@ -40,8 +33,9 @@ fn samples_of(alloc: Global, numbers: &[u32]) -> Result<Vec<u16>, AllocError>
 }
 
 /// The stem of numbers that are as they should be.
+#[tactic(auto, unfolding(crate::specs::file::Stm::parts_of))]
 pub(crate) fn stem_from(alloc: Global, draft: &Draft) -> Result<Stem, AllocError>
-    requires { IsReadyDraft draft.now }
+    requires { AreNumbers draft.now }
     ensures { IfOk result (λ stem. stem ≡ parts_of draft.now) }
 {
     let number = draft.number.as_slice()[0];
@@ -53,7 +47,7 @@ pub(crate) fn stem_from(alloc: Global, draft: &Draft) -> Result<Stem, AllocError
 
 /// The stems of drafts that passed the last three lines. Each draft is given up once its stem is made.
 fn stems_from(alloc: Global, drafts: Vec<Draft>) -> Result<Vec<Stem>, AllocError>
-    requires { All IsReadyDraft drafts.items }
+    requires { All AreNumbers drafts.items }
     ensures { IfOk result (λ stems. stems.items ≡ map parts_of drafts.items) }
 {
     let mut stems = Vec::with_capacity(alloc, drafts.len())?;
@@ -69,20 +63,10 @@ fn drafts_in<'a>(alloc: Global, items: &'a [Piece<'a>]) -> Result<Listed<Draft>,
     ensures { Gives Memory result (drafts_in items.now) }
 {
     let stems = groups(alloc, items, STEM)?;
-    check(says_stm(items), StmFault::NotStm)?;
+    check(rest(items, FILE) == b"STM".as_slice(), StmFault::NotStm)?;
     present(items, stems.as_slice())?;
     single(items, stems.as_slice())?;
     drafts_of(alloc, stems.as_slice())
-}
-
-/// Each stem's numbers are in range, in order and as many as there should be.
-#[tactic(auto, unfolding(crate::specs::file::Stm::checked))]
-fn checked(drafts: &[Draft]) -> Result<(), StmFault>
-    ensures { result ≡ checked drafts.now }
-{
-    in_range(drafts)?;
-    in_order(drafts)?;
-    in_number(drafts)
 }
 
 /// The stems of a file's bytes, or the first refusal that applies, line by line over lists of the table's items and

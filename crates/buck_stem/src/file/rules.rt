@@ -33,14 +33,7 @@ pub(crate) fn starts_within(slot: Slot, zones: &[u32]) -> bool
 pub(crate) fn grades_within(slot: Slot, zones: &[u32]) -> bool
     ensures { result ≡ all_within slot.low slot.high (grades zones.now) }
 {
-    let mut rest = zones;
-    while rest.len() > 1 {
-        if !is_within(slot, rest[1]) {
-            return false;
-        }
-        rest = &rest[2..];
-    }
-    true
+    zones.is_empty() || starts_within(slot, &zones[1..])
 }
 
 /// Each number at an odd place is above the one at the odd place before.
