@@ -66,16 +66,6 @@ impl Grades {
             bits: self.bits | (1 << (grade - 1)),
         }
     }
-
-    /// These and others.
-    #[inline(always)]
-    pub(crate) fn union(self, other: Grades) -> Grades
-        ensures { (g : ℕ) → (bit_at result g ≡ 1) ↔ ((bit_at self g ≡ 1) ⊎ (bit_at other g ≡ 1)) }
-    {
-        Grades {
-            bits: self.bits | other.bits,
-        }
-    }
 }
 
 /// Whether each of some grades is one of these.

@@ -3,10 +3,10 @@ ghost use Rattle.std.specs.Prelude.{◌≡◌, ℕ, ◌+◌, ◌-◌, ◌*◌, �
 ghost use Rattle.buck_stem.specs.Stem.{IsStem, diameter_at};
 ghost use Rattle.buck_stem.specs.points.Profile.{profile_of, points_of, IsMaskBetween};
 ghost use Rattle.buck_stem.specs.inner.ProfileTables.{AreTables};
+ghost use Rattle.buck_stem.specs.inner.Runs.{ShowMask};
 
-use crate::grades::Grades;
 use crate::points::diameters::put_diameters;
-use crate::points::runs::{Runs, put_runs};
+use crate::points::runs::{Step, put_steps};
 use crate::stem::Stem;
 use buck_record::Memory;
 use std::alloc::{AllocError, Global};
@@ -42,16 +42,19 @@ enum Tables<'a> {
 /// The lists of a profile, to be kept from stem to stem. What they hold of the stem before is of no account.
 #[derive(Drop)]
 pub struct ProfileLists {
+    /// The least diameter up to each sample, if the diameters are made of it.
+    lows: Vec<u32>,
     diameters: Vec<u32>,
-    runs: Runs,
+    steps: Vec<Step>,
 }
 
 impl ProfileLists {
     /// Empty lists. It takes no memory.
     pub fn new(alloc: Global) -> ProfileLists {
         ProfileLists {
+            lows: Vec::new(alloc),
             diameters: Vec::new(alloc),
-            runs: Runs::new(alloc),
+            steps: Vec::new(alloc),
         }
     }
 }
@@ -61,8 +64,8 @@ fn put_tables(lists: &mut ProfileLists, stem: &Stem, step: u32) -> Result<(), Al
     requires { (10 ≤ step) × (step ≤ 1000) }
     ensures { OnOk result (AreTables (profile_of stem.now step) lists.new) }
 {
-    put_diameters(&mut lists.diameters, stem, step)?;
-    put_runs(&mut lists.runs, stem, step)
+    put_diameters(&mut lists.diameters, &mut lists.lows, stem, step)?;
+    put_steps(&mut lists.steps, stem, step)
 }
 
 impl<'a> Profile<'a> {
@@ -131,6 +134,15 @@ impl<'a> Profile<'a> {
         self.diameters()[i]
     }
 
+    /// Step `i`.
+    fn step(&self, i: usize) -> Step
+        requires { i + 1 < points_of self.now }
+        ensures low { result.first ≤ i }
+        ensures right { ShowMask self.now.stem.zones self.now.module result.first (i + 1) result.mask }
+    {
+        self.lists().steps[i]
+    }
+
     /// The grades from point `i` on, if those from the next point on, up to whichever point, are `grades`: bit g - 1
     /// for grade g.
     pub fn grades_from(&self, i: usize, grades: u8) -> u8
@@ -138,9 +150,7 @@ impl<'a> Profile<'a> {
         ensures { (j : ℕ) → i < j → j < points_of self.now → IsMaskBetween self.now (i + 1) j grades
             → IsMaskBetween self.now i j result }
     {
-        let runs = &self.lists().runs;
-        let step = runs.masks[runs.run_of[i] as usize];
-        step.union(Grades::of(grades)).mask()
+        self.step(i).mask | grades
     }
 
     /// The grades from point `i` up to point `j`: bit g - 1 for grade g. They are found run by run.
@@ -167,7 +177,6 @@ impl<'a> Profile<'a> {
             → (k : ℕ) → result ≤ k → k ≤ i → IsMaskBetween self.now k j mask }
         ensures even { (one : ℕ) × ((k : ℕ) → result ≤ k → k ≤ i → IsMaskBetween self.now k (k + 1) one) }
     {
-        let runs = &self.lists().runs;
-        runs.starts[runs.run_of[i] as usize] as usize
+        self.step(i).first as usize
     }
 }

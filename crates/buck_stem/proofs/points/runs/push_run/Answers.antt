@@ -1,20 +1,17 @@
-use Rattle.std.proofs.Common.{◌≡◌, ◌<◌, ◌∙◌, ℕ, [], ◌∷◌, ◌++◌, length, ap, refl, arith}
-use Rattle.buck_stem.proofs.RunLemmas.{runs_more}
+use Rattle.std.proofs.Common.{refl, arith}
+use Rattle.buck_stem.proofs.RunLemmas.{steps_more, even_steps}
 use Rattle.buck_stem.proofs.points.runs.push_run.Goals as goal
 
 pub returns-clause-right : goal.returns-clause-right
-returns-clause-right c = λ zones step old shows.
-    let few : length c.args.runs.now.run_of.items < 4000 = omega arith in
-    let starts : c.push.new.self.items ≡ c.args.runs.now.starts.items ++ length c.args.runs.now.run_of.items ∷ [] =
-    c.in_ok-push.ensures.items
-    ∙ ap (λ (n : ℕ). c.args.runs.now.starts.items ++ n ∷ []) (omega (arith, c.len-first.ensures)) in
-    let masks : c.push-2.new.self.items ≡ c.args.runs.now.masks.items ++ c.args.mask ∷ [] =
-    c.in_ok-push-2.ensures.items in
-    let steps : length c.resize.new.self.items ≡ c.args.end = omega (arith, c.in_ok-resize.ensures.len) in
-    rw (starts, masks)
-    (runs_more zones step c.args.end c.args.mask c.args.runs.now.starts.items c.args.runs.now.masks.items
-    c.args.runs.now.run_of.items
-    c.resize.new.self.items old c.requires.ahead steps
-    (λ k lt. c.in_ok-resize.ensures.by_index.0 k 0 (omega arith) (omega arith))
-    (λ k le lt. c.in_ok-resize.ensures.by_index.1 k 0 refl (omega arith) lt ∙ omega (arith, c.len-run.ensures))
-    shows)
+returns-clause-right c =
+    let zones = c.args.stem.now.zones in
+    let step = c.args.step in
+    let first = c.len-first.result in
+    let end = c.max-end.result in
+    let mask = c.grades_between-mask.result in
+    steps_more zones step first end mask c.args.steps.now.items c.resize.new.self.items c.requires.right
+    (omega (arith, c.len-first.ensures)) (omega (arith, c.max-end.ensures)) (omega (arith, c.in_ok-resize.ensures.len))
+    (λ k d lt. c.in_ok-resize.ensures.by_index.0 k d (omega (arith, c.max-end.ensures, c.len-first.ensures)) (omega arith))
+    (λ k d le lt. c.in_ok-resize.ensures.by_index.1 k d refl (omega arith) lt)
+    (even_steps zones step first end c.grade_end.result mask (omega arith) (rw c.zones.ensures at c.grade_end.ensures)
+    (λ past. omega (arith, c.min-even.ensures, c.max-end.ensures)) c.grades_between-mask.ensures)

@@ -7,6 +7,7 @@ use Rattle.buck_stem.proofs.points.profile.Profile.diameters.Goals as goal
 pub returns-clause-high : goal.returns-clause-high
 returns-clause-high c = λ i within.
     let p : ProfileParts = c.args.self.now in
+    let are = c.lists.ensures in
     let value : slice_index c.as_slice.result.now i ≡ diameter_at p.stem.samples (i * p.«module») =
-    ap (λ xs. slice_index xs i) c.as_slice.ensures.value ∙ c.lists.ensures.diameters_right i within in
-    omega (arith, value, diameter_at-le p.stem (i * p.«module») c.lists.ensures.valid)
+    ap (λ xs. slice_index xs i) c.as_slice.ensures.value ∙ are.diameters_right i (omega (arith, are.diameters_number)) in
+    omega (arith, value, diameter_at-le p.stem (i * p.«module») are.valid)
