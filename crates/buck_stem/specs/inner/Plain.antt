@@ -23,29 +23,21 @@ abbrev pub group_of : List ℕ → List ℕ → List ℕ → Option (List ℕ) �
 group_of number species samples zones =
     item_in STEM number ∷ item_in SPECIES species ∷ item_in SAMPLES samples ∷ zones_item zones
 
--- texts that say these numbers
-pub record Says (d : Draft) : Type 0 where
+-- what a stem says, in texts and in numbers, which are right
+pub record Plain : Type 0 where
+  pub draft : Draft
   pub number : List ℕ
   pub species : List ℕ
   pub samples : List ℕ
   pub zones : Option (List ℕ)
-  pub numbers : numbers_of number ≡ Ok d.number
-  pub kinds : numbers_of species ≡ Ok d.species
-  pub diameters : numbers_of samples ≡ Ok d.samples
-  pub grades : numbers_of (unwrap_or zones []) ≡ Ok d.zones
-
--- the items with these texts
-abbrev pub items_in : (d : Draft) → Says d → List ItemParts
-items_in d s = group_of s.number s.species s.samples s.zones
-
--- what a stem says, in texts and in numbers, which are right
-pub record Plain : Type 0 where
-  pub draft : Draft
-  pub says : Says draft
+  pub numbers : numbers_of number ≡ Ok draft.number
+  pub kinds : numbers_of species ≡ Ok draft.species
+  pub diameters : numbers_of samples ≡ Ok draft.samples
+  pub grades : numbers_of (unwrap_or zones []) ≡ Ok draft.zones
   pub ready : IsReadyDraft draft
 
 abbrev pub group_in : Plain → List ItemParts
-group_in p = items_in p.draft p.says
+group_in p = group_of p.number p.species p.samples p.zones
 
 abbrev pub all_drafts : List Plain → List Draft
 all_drafts ps = map (λ (p : Plain). p.draft) ps
@@ -75,10 +67,6 @@ pub record LeadsZones (text ns left : List ℕ) : Type 0 where
   pub item : Option (List ℕ)
   pub read : numbers_of (unwrap_or item []) ≡ Ok ns
   pub next : LeadsItems text (zones_item item) left
-
--- the text begins with the items of a stem that say these numbers, and `left` has the others
-abbrev pub LeadsDraft : List ℕ → Draft → List ℕ → Type 0
-LeadsDraft text d left = (s : Says d) × LeadsItems text (items_in d s) left
 
 -- the text begins with the items of the stems, and `left` has the others
 abbrev pub LeadsStems : List ℕ → List StemParts → List ℕ → Type 0

@@ -7,7 +7,7 @@ ghost use Rattle.std.specs.Prelude.{◌≡◌, [], ◌∷◌, IfOk, Ok, true};
 ghost use Rattle.buck_record.specs.pass.Cursor.{item_in};
 ghost use Rattle.buck_record.specs.checking.Table.{is_in};
 ghost use Rattle.buck_stem.specs.file.Stm.{table, stm_of};
-ghost use Rattle.buck_stem.specs.inner.Plain.{LeadsNumbers, LeadsZones, LeadsDraft, LeadsStems, HasStems, IsBodyOf};
+ghost use Rattle.buck_stem.specs.inner.Plain.{LeadsNumbers, LeadsZones, LeadsStems, HasStems, IsBodyOf};
 
 use crate::file::draft::Draft;
 use crate::file::fault::StmFault;
@@ -48,10 +48,14 @@ fn next_zones<'a>(room: &mut Vec<u32>, text: &'a [u8]) -> Result<&'a [u8], StmFa
     Ok(left)
 }
 
-/// What the items of the stem say that a text begins with, in the lists of the stem before; and what is left after
-/// them.
-fn next_draft<'a>(draft: Draft, text: &'a [u8]) -> Result<(Draft, &'a [u8]), StmFault>
-    ensures { IfOk result (λ w. LeadsDraft text.now w.0 w.1.now) }
+/// The stem that a text begins with, the lists that its numbers are read into, which are those of the stem before, and
+/// what is left after it.
+fn next_stem<'a>(
+    alloc: Global,
+    draft: Draft,
+    text: &'a [u8],
+) -> Result<(Stem, Draft, &'a [u8]), StmFault>
+    ensures { IfOk result (λ w. LeadsStems text.now (w.0 ∷ []) w.2.now) }
 {
     let mut number = draft.number.into_vec();
     let mut species = draft.species.into_vec();
@@ -67,18 +71,6 @@ fn next_draft<'a>(draft: Draft, text: &'a [u8]) -> Result<(Draft, &'a [u8]), Stm
         samples: Listed::of(samples),
         zones: Listed::of(zones),
     };
-    Ok((read, left))
-}
-
-/// The stem that a text begins with, the lists that its numbers were read into, and what is left after it.
-fn next_stem<'a>(
-    alloc: Global,
-    draft: Draft,
-    text: &'a [u8],
-) -> Result<(Stem, Draft, &'a [u8]), StmFault>
-    ensures { IfOk result (λ w. LeadsStems text.now (w.0 ∷ []) w.2.now) }
-{
-    let (read, left) = next_draft(draft, text)?;
     ready(&read)?;
     let stem = stem_from(alloc, &read)?;
     Ok((stem, read, left))
