@@ -35,7 +35,8 @@ loop-zone-preserved c =
         below = omega (arith, w.from-is, l.invariant.below);
         grade = graded;
         found = λ g one. rw (w.from-is, w.grades-is)
-            (passed (rw rest at (l.invariant.found g one)) (past_zone l.grade l.from c.args.b g z after w.if-from-zone.false));
+            (passed (rw rest at (l.invariant.found g one))
+            (past_zone l.grade l.from c.args.b g z after w.if-from-zone.false));
       }
     ]
 
