@@ -10,12 +10,13 @@ use Rattle.std.proofs.lemmas.List.Sums.{fails_before_first}
 use Rattle.buck_record.proofs.TableLemmas.{place-none}
 use Rattle.buck_apt.specs.Instruction.{InstructionParts, AssortmentParts, IsAssortment, IsInstruction, IsClass, IsOnModule}
 use Rattle.buck_apt.specs.declared.class.Class.{Class}
-use Rattle.buck_stem.specs.Stem.{StemParts, stem_length, HasGradesOf, grade_at}
+use Rattle.buck_stem.specs.Stem.{StemParts, HasGradesOf, grade_at}
 use Rattle.buck_value.specs.declared.log.Log.{Log}
 use Rattle.buck_value.specs.Sheet.{SheetParts, price_of}
 use Rattle.buck_value.specs.Volume.{volume, worth_at}
 use Rattle.buck_value.proofs.Rows.{row_within}
-use Rattle.buck_value.specs.Allowed.{IsAllowed, Allows, IsBought, worth_of, kind_in, class_in, class_of, top_diameter, column_of, top_of}
+use Rattle.buck_value.proofs.Stands.{stands}
+use Rattle.buck_value.specs.Allowed.{IsAllowed, worth_of, kind_in, class_in, class_of, top_diameter, column_of, top_of}
 
 pub column_some : (xs : List ℕ) (l i : ℕ) → position (λ x. x == l) xs ≡ Some i → (i < length xs) × Contains xs l
 column_some xs l i e =
@@ -31,6 +32,14 @@ column_none xs l e c =
 pub column_is : (a : AssortmentParts) (l column : ℕ) → position (λ x. x == l) a.lengths ≡ Some column
     → column_of a l ≡ column
 column_is a l column at = ap (λ o. unwrap_or o 0) at
+
+-- a length that is there has a column
+pub column_there : (xs : List ℕ) (l : ℕ) → Contains xs l → (column : ℕ) × (position (λ x. x == l) xs ≡ Some column)
+column_there xs l has = of (position (λ x. x == l) xs) refl
+  where
+    of : (o : Option ℕ) → position (λ x. x == l) xs ≡ o → (column : ℕ) × (o ≡ Some column)
+    of None e = absurd (column_none xs l e has)
+    of (Some column) e = (column, refl)
 
 -- a test that failed, over equal values
 pub grades_fail : (zones : List (ℕ × ℕ)) (a b e : ℕ) (grades gs : List ℕ)
@@ -66,26 +75,6 @@ ends_on step a g column lengths on at =
     ))
     ∙ mul-mod_left (g.start / step + g.length / step) step
 
--- what the code has tested makes the log allowed
-pub allows_by_tests : (step : ℕ) (a : AssortmentParts) (stem : StemParts) (log : Log) (column top : ℕ)
-    → a.species ≡ stem.species
-    → log.start % step ≡ 0
-    → position (λ x. x == log.length) a.lengths ≡ Some column
-    → top_of log + a.trim ≤ stem_length stem.samples
-    → HasGradesOf stem.zones log.start (top_of log) a.grades
-    → top ≡ top_diameter stem log
-    → IsBought a column top
-    → Allows step a stem log
-allows_by_tests step a stem log column top species grid at within grades is_top bought =
-    record {
-      species = species;
-      on_module = grid;
-      length_offered = (column_some a.lengths log.length column at).1;
-      within = within;
-      grades = grades;
-      bought = rw (← is_top, column_is a log.length column at) bought;
-    }
-
 -- what holds of each assortment holds of the one at a place
 pub at_place : (P : AssortmentParts → Type 0) (xs : List AssortmentParts) (n : ℕ) (a : AssortmentParts) → All P xs
     → slice_get xs n ≡ Some a → P a
@@ -102,24 +91,14 @@ pub class_is_class : (i : InstructionParts) (stem : StemParts) (g : Log) → IsI
     → IsClass i (class_of i stem g)
 class_is_class i stem g v a =
     let valid : IsAssortment a.assortment = valid_of i stem g v a in
-    let column : column_of a.assortment g.length < length a.assortment.lengths =
-    column_within a.assortment g.length a.allows.length_offered in
+    let at = column_there a.assortment.lengths g.length a.allows.length_offered in
     subst (λ o. IsClass i (class_in o stem g)) (sym a.exists)
     (record {
       assortment = a.assortment;
       exists = a.exists;
-      row =
-          row_within a.assortment (top_diameter stem g) valid;
-      column = column;
+      row = row_within a.assortment (top_diameter stem g) valid;
+      column = rw at.1 (column_some a.assortment.lengths g.length at.0 at.1).0;
     })
-  where
-    column_cases : (xs : List ℕ) (l : ℕ) (o : Option ℕ) → position (λ x. x == l) xs ≡ o → Contains xs l
-        → unwrap_or o 0 < length xs
-    column_cases xs l None e c = absurd (column_none xs l e c)
-    column_cases xs l (Some k) e c = (column_some xs l k e).0
-
-    column_within : (a : AssortmentParts) (l : ℕ) → Contains a.lengths l → column_of a l < length a.lengths
-    column_within a l c = column_cases a.lengths l (position (λ x. x == l) a.lengths) refl c
 
 -- the measures of an allowed log are small
 pub allowed_low : (i : InstructionParts) (stem : StemParts) (g : Log) → IsInstruction i → IsAllowed i stem g
@@ -152,3 +131,6 @@ worth_by_class s stem g class top is_class is_top =
     ∙ ap (λ k. worth_at (kind_in (slice_get all g.assortment)) (price_of s k) (volume top g.length)) is_class
     ∙ ap (λ d. worth_at (kind_in (slice_get all g.assortment)) (price_of s (class_of s.instruction stem g))
     (volume d g.length)) is_top
+
+-- what the worth of an allowed log goes by
+pub ruleset valuing = (stands, slice_get_within, class_is_class, allowed_low, worth_by_class)

@@ -57,6 +57,8 @@ price-le s k v = elim (cases_lt k (length s.prices)) [
   | inr ge ↦ omega (arith, get_or_past s.prices k 0 ge)
 ]
 
+pub ruleset low_prices = (price-le)
+
 pub prices_low : (s : SheetParts) → IsSheet s → All (λ p. p ≤ 20000000) s.prices
 prices_low s v = λ k d lt. rw (get_or_default_zero s.prices k d lt) (price-le s k v)
 

@@ -1,5 +1,5 @@
 //! A stem prepared for cutting under a sheet: which log is allowed from point to point, and its worth, from tables.
-ghost use Rattle.std.specs.Prelude.{◌≡◌, ◌<◌, ◌≤◌, IfOk, IfSome, IfNone, Some, length, slice_get};
+ghost use Rattle.std.specs.Prelude.{◌≡◌, ◌<◌, ◌≤◌, IfOk, IfSome, IfNone, length};
 ghost use Rattle.buck_stem.specs.Stem.{IsStem};
 ghost use Rattle.buck_value.specs.Sheet.{IsSheet};
 ghost use Rattle.buck_value.specs.Allowed.{IsAllowed, class_of, worth_of};
@@ -8,7 +8,7 @@ ghost use Rattle.buck_value.specs.Prepared.{points_of, lengths_of, log_at};
 use crate::log::Log;
 use crate::sheet::Sheet;
 use crate::worth::{measure, worth_by};
-use buck_apt::{Assortment, Class};
+use buck_apt::Class;
 use buck_record::Memory;
 use buck_stem::{Profile, Stem};
 use std::alloc::Global;
@@ -27,11 +27,11 @@ impl<'s, 't> Model for Prepared<'s, 't> {
     ghost use Rattle.std.specs.Prelude.{◌≡◌};
     ghost use Rattle.buck_stem.specs.points.Profile.{profile_of};
     ghost use Rattle.buck_value.specs.Sheet.{IsSheet};
-    ghost use Rattle.buck_value.specs.Prepared.{PreparedParts, prepared_of};
+    ghost use Rattle.buck_value.specs.Prepared.{PreparedParts};
 
     ghost Value = { PreparedParts };
 
-    ghost view = { λ p. prepared_of p.sheet.now p.stem.now };
+    ghost view = { λ p. record { sheet = p.sheet.now; stem = p.stem.now } };
 
     ghost invariant = { λ p.
         IsSheet p.sheet.now × (p.profile ≡ profile_of p.stem.now p.sheet.now.instruction.«module») };
@@ -61,22 +61,6 @@ impl<'s, 't> Prepared<'s, 't> {
         self.profile.points()
     }
 
-    /// The stem.
-    pub fn stem(&self) -> &Stem
-        ensures { result.now ≡ self.now.stem }
-    {
-        self.stem
-    }
-
-    /// The assortment at a place.
-    fn assortment(&self, place: usize) -> &Assortment
-        requires { place < length self.now.sheet.instruction.assortments }
-        ensures there { slice_get self.now.sheet.instruction.assortments place ≡ Some result.now }
-        ensures sheet { IsSheet self.now.sheet }
-    {
-        &self.sheet.instruction().assortments()[place]
-    }
-
     /// The log of point `i`, an assortment and a column.
     fn log(&self, i: usize, assortment: usize, column: usize) -> Log
         requires i { i < points_of self.now }
@@ -86,9 +70,10 @@ impl<'s, 't> Prepared<'s, 't> {
     {
         // `points` brings that there are few of them, so that the product below fits.
         prove!(i < self.points());
+        let instruction = self.sheet.instruction();
         Log {
-            start: i as u32 * self.sheet.instruction().module(),
-            length: self.assortment(assortment).lengths()[column],
+            start: i as u32 * instruction.module(),
+            length: instruction.assortments()[assortment].lengths()[column],
             assortment: assortment as u8,
         }
     }
@@ -105,8 +90,8 @@ impl<'s, 't> Prepared<'s, 't> {
         ensures none { IfNone result
             (IsAllowed self.now.sheet.instruction self.now.stem (log_at self.now i assortment column) → ⊥) }
     {
-        let log = self.log(i, assortment, column);
         // The code that tests a log of any stem: a second test over these tables could differ from it.
+        let log = self.log(i, assortment, column);
         Some(measure(self.sheet, self.stem, Some(&self.profile), &log)?.class)
     }
 

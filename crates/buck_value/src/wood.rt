@@ -6,7 +6,7 @@ use buck_apt::Assortment;
 use buck_stem::Grades;
 
 /// Whether each of some grades is one of these.
-pub(crate) fn are_in(grades: Grades, list: &[u8]) -> bool
+fn are_in(grades: Grades, list: &[u8]) -> bool
     ensures { IsTrue result ↔ AllIn grades list.now }
 {
     for grade in 1..9u8 {

@@ -3,11 +3,11 @@
 //! A log is allowed if its assortment is there and is of the stem's species, it starts at a multiple of the module,
 //! its length is one of the assortment's, it ends within the stem together with the assortment's trim allowance, each
 //! grade along its length is one of the assortment's, its top diameter is at or above the first lower limit and below
-//! the upper diameter, and the base price of its class isn't 0. Its row is the last whose lower limit is at most its top
-//! diameter, its column the place of its length.
+//! the upper diameter, and the base price of its class isn't 0. Its row is the last whose lower limit is at most its
+//! top diameter, its column the place of its length.
 ghost use Rattle.std.specs.Prelude.{◌≡◌, ◌+◌, ◌*◌, ◌<◌, ◌≤◌, ◌%◌, ◌==◌, Some, IfSome, IfNone, slice_get, length, position};
 ghost use Rattle.buck_apt.specs.Instruction.{IsAssortment, IsClass, IsOnModule};
-ghost use Rattle.buck_stem.specs.Stem.{IsStem, stem_length};
+ghost use Rattle.buck_stem.specs.Stem.{IsStem, stem_length, diameter_at};
 ghost use Rattle.buck_stem.specs.points.Profile.{IsMask, profile_of};
 ghost use Rattle.buck_value.specs.Sheet.{IsSheet, price_of};
 ghost use Rattle.buck_value.specs.Allowed.{IsAllowed, Allows, IsBought, log_of, top_of, top_diameter, row_at, class_in, class_of, kind_in, worth_of};
@@ -16,7 +16,7 @@ ghost use Rattle.buck_value.specs.declared.sheet.TheConstants.{HIGHEST_PRICE};
 
 use crate::log::Log;
 use crate::sheet::Sheet;
-use crate::wood::are_in;
+use crate::wood::takes;
 use buck_apt::{Assortment, Class};
 use buck_stem::{Grades, Profile, Stem};
 
@@ -87,51 +87,32 @@ pub fn column_of(assortment: &Assortment, length: u32) -> Option<usize>
     assortment.lengths().iter().position(|l| *l == length)
 }
 
-/// Where the length of a log that lies within a stem ends, in mm from the butt.
-fn end_within(stem: &Stem, log: &Log) -> u32
-    requires { top_of log.now ≤ stem_length stem.now.samples }
-    ensures { result ≡ top_of log.now }
-{
-    // `length` brings that a stem is short, so that the sum below fits.
-    prove!(log.start <= stem.length());
-    log.start + log.length
-}
-
-/// The diameter where the length of a log ends.
-fn top_of(stem: &Stem, log: &Log) -> u32
-    requires { top_of log.now ≤ stem_length stem.now.samples }
-    ensures { result ≡ top_diameter stem.now log.now }
-{
-    stem.diameter_at(end_within(stem, log))
-}
-
-/// The diameter where the length of a log ends, from the stem's tables for a module if there are any.
-fn top_in(step: u32, stem: &Stem, tables: Option<&Profile<'_>>, log: &Log) -> u32
+/// The wood of a stem from one place to another, in mm from the butt: its grades, and the diameter in mm where it ends.
+/// They are read from the stem's tables for a module if there are any.
+fn wood_between(
+    step: u32,
+    stem: &Stem,
+    tables: Option<&Profile<'_>>,
+    start: u32,
+    end: u32,
+) -> (Grades, u32)
     requires step { 0 < step }
     requires tables { IfSome tables (λ q. q.now ≡ profile_of stem.now step) }
-    requires end { top_of log.now % step ≡ 0 }
-    requires within { top_of log.now ≤ stem_length stem.now.samples }
-    ensures { result ≡ top_diameter stem.now log.now }
+    requires places { (start % step ≡ 0) × (end % step ≡ 0) }
+    requires within { (start ≤ end) × (end ≤ stem_length stem.now.samples) }
+    ensures grades { IsMask stem.now.zones start end result.0 }
+    ensures top { result.1 ≡ diameter_at stem.now.samples end }
 {
     match tables {
-        None => top_of(stem, log),
-        Some(tables) => tables.diameter((end_within(stem, log) / step) as usize),
-    }
-}
-
-/// The grades along the length of a log, bit g - 1 for grade g, from the stem's tables for a module if there are any.
-fn grades_in(step: u32, stem: &Stem, tables: Option<&Profile<'_>>, log: &Log) -> u8
-    requires step { 0 < step }
-    requires tables { IfSome tables (λ q. q.now ≡ profile_of stem.now step) }
-    requires start { log.now.start % step ≡ 0 }
-    requires end { top_of log.now % step ≡ 0 }
-    requires within { top_of log.now ≤ stem_length stem.now.samples }
-    ensures { IsMask stem.now.zones log.now.start (top_of log.now) result }
-{
-    let end = end_within(stem, log);
-    match tables {
-        None => stem.grades_between(log.start, end),
-        Some(tables) => tables.grades((log.start / step) as usize, (end / step) as usize),
+        None => (
+            Grades::of(stem.grades_between(start, end)),
+            stem.diameter_at(end),
+        ),
+        Some(tables) => {
+            let i = (start / step) as usize;
+            let j = (end / step) as usize;
+            (Grades::of(tables.grades(i, j)), tables.diameter(j))
+        }
     }
 }
 
@@ -144,6 +125,7 @@ pub(crate) struct Measured {
 
 /// The class and the top diameter of a log of an assortment, or `None` if that doesn't allow it. They are read from
 /// the stem's tables if there are any.
+#[tactic(auto, using(crate::proofs::Classes::column_none))]
 fn measure_in(
     step: u32,
     assortment: &Assortment,
@@ -158,32 +140,20 @@ fn measure_in(
     ensures class { IfSome result (λ m. m.class ≡ class_in (Some assortment.now) stem.now log.now) }
     ensures top { IfSome result (λ m. m.top ≡ top_diameter stem.now log.now) }
     ensures none { IfNone result (Allows step assortment.now stem.now log.now → ⊥) }
-    ensures stem { IsStem stem.now }
+    ensures stem { IfSome result (λ _. IsStem stem.now) }
 {
-    let whole = stem.length();
-    if assortment.species() != stem.species() {
-        return None;
-    }
     if log.start % step != 0 {
         return None;
     }
-    let Some(column) = column_of(assortment, log.length) else {
-        return None;
-    };
-    let Some(end) = log.start.checked_add(log.length) else {
-        return None;
-    };
-    if end > whole {
+    let column = column_of(assortment, log.length)?;
+    let end = u64::from(log.start) + u64::from(log.length) + u64::from(assortment.trim());
+    if end > u64::from(stem.length()) {
         return None;
     }
-    if whole - end < assortment.trim() {
+    let (grades, top) = wood_between(step, stem, tables, log.start, log.start + log.length);
+    if !takes(assortment, stem.species(), grades) {
         return None;
     }
-    let mask = grades_in(step, stem, tables, log);
-    if !are_in(Grades::of(mask), assortment.grades()) {
-        return None;
-    }
-    let top = top_in(step, stem, tables, log);
     let row = bought_row(assortment, column, top)?;
     let class = Class {
         assortment: log.assortment,
@@ -221,6 +191,7 @@ pub(crate) fn measure(
 /// The class of the log that starts `start` mm from the butt, is `length` mm long and of the assortment at this place,
 /// counted from 0; `None` if that log isn't allowed. The base prices have a part in it, the prices in force have
 /// none. Any numbers may be asked for; it takes no memory.
+#[tactic(auto, using(crate::proofs::Classes::class_is_class))]
 pub fn class_of(
     sheet: &Sheet,
     stem: &Stem,
@@ -249,6 +220,7 @@ pub fn class_of(
 }
 
 /// What a log of a class, a top diameter and a length in mm is worth.
+#[tactic(auto, using(crate::proofs::Prices::low_prices))]
 fn worth_in_class(sheet: &Sheet, class: Class, top: u32, length: u32) -> u64
     requires class { IsClass sheet.now.instruction class }
     requires top { top ≤ 2000 }
@@ -272,6 +244,7 @@ pub struct Valuation {
 }
 
 /// What a log is worth, or `None` if it isn't allowed, from the stem's tables for the sheet's module if there are any.
+#[tactic(auto, using(crate::proofs::Classes::valuing))]
 pub(crate) fn worth_by(
     sheet: &Sheet,
     stem: &Stem,
@@ -304,6 +277,7 @@ pub fn worth_if_allowed(sheet: &Sheet, stem: &Stem, log: &Log) -> Option<u64>
 }
 
 /// The class, the top diameter and the worth of a log that is allowed under a sheet. It takes no memory.
+#[tactic(auto, using(crate::proofs::Classes::valuing))]
 pub fn valuation_of_allowed(sheet: &Sheet, stem: &Stem, log: &Log) -> Valuation
     requires { IsAllowed sheet.now.instruction stem.now log.now }
     ensures class { result.class ≡ class_of sheet.now.instruction stem.now log.now }
@@ -312,15 +286,14 @@ pub fn valuation_of_allowed(sheet: &Sheet, stem: &Stem, log: &Log) -> Valuation
     ensures valid { IsSheet sheet.now }
     ensures stem { IsStem stem.now }
 {
-    // `length` brings that the stem is within its limits, which the clause `stem` passes on.
-    let _valid = stem.length();
+    // `length` brings that the stem is within its limits: so the sum below fits, and the clause `stem` holds.
+    prove!(log.start <= stem.length());
+    let top = stem.diameter_at(log.start + log.length);
     let assortment = &sheet.instruction().assortments()[log.assortment as usize];
-    let top = top_of(stem, log);
-    // The length of an allowed log is a column's, so the 0 never comes.
     let class = Class {
         assortment: log.assortment,
         row: row_of(assortment, top) as u8,
-        column: column_of(assortment, log.length).unwrap_or(0) as u8,
+        column: column_of(assortment, log.length).unwrap() as u8,
     };
     let worth = worth_in_class(sheet, class, top, log.length);
     Valuation { class, top, worth }

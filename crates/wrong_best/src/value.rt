@@ -337,16 +337,16 @@ pub fn log_past_the_last_point(prepared: &Prepared<'_, '_>, point: usize)
 }
 
 /// The row of a log of a prepared stem is that of the diameter at the butt.
-pub fn row_by_the_butt(prepared: &Prepared<'_, '_>, assortment: &Assortment)
+pub fn row_by_the_butt(prepared: &Prepared<'_, '_>, assortment: &Assortment, butt: u32)
     requires assortment { slice_get prepared.now.sheet.instruction.assortments 0 ≡ Some assortment.now }
     requires column { 0 < length (lengths_of prepared.now 0) }
-    requires rows { AreOfTwoRows assortment.now (diameter_at prepared.now.stem.samples 0)
-        (top_diameter prepared.now.stem (log_at prepared.now 0 0 0)) }
+    requires butt { butt ≡ diameter_at prepared.now.stem.samples 0 }
+    requires rows { AreOfTwoRows assortment.now butt (top_diameter prepared.now.stem (log_at prepared.now 0 0 0)) }
 {
     let Some(class) = prepared.class(0, 0, 0) else {
         return;
     };
     let right = class.row as usize;
-    let wrong = row_of(assortment, prepared.stem().diameter_at(0));
+    let wrong = row_of(assortment, butt);
     prove!(right != wrong);
 }

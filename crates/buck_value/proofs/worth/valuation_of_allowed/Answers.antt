@@ -1,20 +1,22 @@
-use Rattle.std.proofs.Common.{◌≡◌, Some, length, slice_get, refl, ◌∙◌, rules}
-use Rattle.std.proofs.lemmas.Option.{slice_get_read, slice_get_within}
-use Rattle.buck_value.proofs.Classes.{worth_by_class}
+use Rattle.std.proofs.Common.{◌≡◌, Some, Contains, slice_get, refl, sym, ◌∙◌, subst, rules, arith}
+use Rattle.std.proofs.lemmas.Option.{same_Some, slice_get_within}
+use Rattle.buck_apt.specs.Instruction.{AssortmentParts}
+use Rattle.buck_value.proofs.Classes.{column_there, worth_by_class}
+use Rattle.buck_value.proofs.Stands.{stands}
 use Rattle.buck_value.proofs.worth.valuation_of_allowed.Goals as goal
 
-pub returns-clause-class : goal.returns-clause-class
-returns-clause-class c =
-    let all = c.args.sheet.now.instruction.assortments in
-    let at = c.args.log.now.assortment in
-    let items : c.assortments.result.now ≡ all = search rules in
-    let there : slice_get all at ≡ Some c.index-assortments-log.result =
-    slice_get_read all (length all) at c.index-assortments-log.result refl
-    (slice_get_within all at c.requires.assortment c.requires.exists) (rw items at c.index-assortments-log.is) in
-    rw (there, ← c.top_of-top.ensures, ← c.row_of.ensures.row) (search rules)
+pub unwrap-requires : goal.unwrap-requires
+unwrap-requires c =
+    let i = c.args.sheet.now.instruction in let g = c.args.log.now in let x = c.index-assortments-log.result in
+    let its : slice_get i.assortments g.assortment ≡ Some x =
+    stands i g.assortment x c.assortments.result.now (search rules)
+    (slice_get_within i.assortments g.assortment c.requires.assortment c.requires.exists) c.index-assortments-log.is in
+    let same : c.requires.assortment ≡ x = same_Some _ _ (sym c.requires.exists ∙ its) in
+    let has = subst (λ (a : AssortmentParts). Contains a.lengths g.length) same c.requires.allows.length_offered in
+    rw (c.column_of.ensures, (column_there x.lengths g.length has).1) refl
 
 pub returns-clause-worth : goal.returns-clause-worth
 returns-clause-worth c =
     c.worth_in_class-worth.ensures
-    ∙ worth_by_class c.args.sheet.now c.args.stem.now c.args.log.now _ c.top_of-top.result (returns-clause-class c)
-    c.top_of-top.ensures
+    ∙ worth_by_class c.args.sheet.now c.args.stem.now c.args.log.now _ c.diameter_at-top.result
+    (grind (arith, stands, slice_get_within)) c.diameter_at-top.ensures
