@@ -1,5 +1,5 @@
 -- Base prices, class by class, and prices within their spans.
-use Rattle.std.proofs.Common.{◌↔◌, ◌≡◌, ℕ, ◌+◌, ◌-◌, ◌*◌, ◌<◌, ◌≤◌, inl, inr, List, [], ◌∷◌, length, take, get_or, slice_index, sum_by, All, take_all, refl, sym, ◌∙◌, ap, subst, arith, mul-le-mul_left}
+use Rattle.std.proofs.Common.{◌≡◌, ℕ, ◌+◌, ◌*◌, ◌<◌, ◌≤◌, inl, inr, List, [], ◌∷◌, length, take, get_or, slice_index, sum_by, All, refl, sym, ◌∙◌, ap, subst, arith, mul-le-mul_left}
 use Rattle.std.specs.List.{flat_map, AllByRecursion}
 use Rattle.std.proofs.lemmas.List.Concat.{get_or-flat_map, length-flat_map}
 use Rattle.std.proofs.lemmas.List.Elements.{All-append, recursion_from_All}
@@ -9,7 +9,7 @@ use Rattle.std.proofs.lemmas.List.Sums.{sum_by-cons}
 use Rattle.std.proofs.lemmas.Bool.{cases_lt}
 use Rattle.std.proofs.lemmas.Grind.{get_or_default_zero}
 use Rattle.buck_apt.specs.Instruction.{InstructionParts, AssortmentParts, IsInstruction, IsAssortment, classes, classes_of}
-use Rattle.buck_value.specs.Sheet.{SheetParts, IsSheet, base_prices, span, IsInSpan, IsPriceAt, sheet_of}
+use Rattle.buck_value.specs.Sheet.{SheetParts, IsSheet, base_prices, span, IsPriceAt, sheet_of}
 
 sum-same : (as_ : List AssortmentParts) → AllByRecursion IsAssortment as_
     → sum_by (λ a. length a.prices) as_ ≡ sum_by classes_of as_
@@ -76,32 +76,18 @@ base_at i n j before a lt is place in_a =
     rw place (get_or-flat_map (λ a. a.prices) i.assortments n j a 0 lt (subst (λ x. j < length x.prices) is in_a)
     ∙ ap (λ x. get_or x.prices j 0) (sym is))
 
--- going over the assortments: `before` classes are done, and the n-th assortment is next
-module _ (i : InstructionParts) (prices : List ℕ) (n before : ℕ) (a : AssortmentParts) where
-  module _ (valid : IsInstruction i) (lt : n < length i.assortments) (is : a ≡ get_or i.assortments n a)
-      (place : before ≡ length (flat_map (λ x. x.prices) (take n i.assortments))) where
-    pub room : before + length a.prices ≤ classes i
-    room =
-        let h : length (flat_map (λ x. x.prices) (take n i.assortments)) + length (get_or i.assortments n a).prices
-        ≤ length (base_prices i) =
-        length-flat_map-take (λ x. x.prices) i.assortments n a lt in
-        omega (arith, length-base_prices i valid, ap (λ x. length x.prices) is)
-
-    -- a price lies within its span if it lies within that of the assortment's base price
-    pub price_here : (j : ℕ) → j < length a.prices
-        → IsInSpan i.limit (slice_index a.prices j) (slice_index prices (before + j)) ↔ IsPriceAt i prices (before + j)
-    price_here j in_a = rw (base_at i n j before a lt is place in_a) (λ h. h, λ h. h)
-
--- all assortments are done
-pub all_inside : (i : InstructionParts) (prices : List ℕ) (n before : ℕ) → IsInstruction i
-    → before ≡ length (flat_map (λ x. x.prices) (take n i.assortments)) → length i.assortments ≤ n
-    → length prices ≡ classes i
-    → ((k : ℕ) → k < before → IsPriceAt i prices k)
-    → (k : ℕ) → k < length prices → IsPriceAt i prices k
-all_inside i prices n before valid place past all old k lt =
-    let whole : before ≡ length (base_prices i) = place
-    ∙ ap (λ xs. length (flat_map (λ x. x.prices) xs)) (take_all n i.assortments past) in
-    old k (omega (arith, length-base_prices i valid))
+-- the assortment's prices are among all
+pub room : (i : InstructionParts) (n before : ℕ) (a : AssortmentParts) → IsInstruction i
+    → n < length i.assortments → a ≡ get_or i.assortments n a
+    → before ≡ length (flat_map (λ a. a.prices) (take n i.assortments))
+    → before + length a.prices ≤ classes i
+room i n before a valid lt is place =
+    omega (
+      arith,
+      length-flat_map-take (λ a. a.prices) i.assortments n a lt,
+      length-base_prices i valid,
+      ap (λ x. length x.prices) is,
+    )
 
 -- the base prices make a sheet
 pub base_sheet : (i : InstructionParts) (prices : List ℕ) → IsInstruction i → prices ≡ base_prices i

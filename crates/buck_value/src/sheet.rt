@@ -160,12 +160,13 @@ fn first_outside(instruction: &Instruction, prices: &[u32]) -> Option<usize>
     let limit = instruction.limit();
     let mut at = 0;
     for assortment in instruction.assortments() {
-        for base in assortment.prices() {
-            if !is_in_span(limit, *base, prices[at]) {
-                return Some(at);
+        let bases = assortment.prices();
+        for k in 0..bases.len() {
+            if !is_in_span(limit, bases[k], prices[at + k]) {
+                return Some(at + k);
             }
-            at += 1;
         }
+        at += bases.len();
     }
     None
 }
