@@ -1,8 +1,8 @@
 -- Which logs an assortment allows, as the code tests it, and their classes.
-use Rattle.std.proofs.Common.{◌≡◌, ℕ, ◌+◌, ◌*◌, ◌/◌, ◌%◌, add-mul, ◌<◌, ◌≤◌, ◌==◌, List, All, Contains, Option, Some, None, IsTrue, true, false, true≢false, length, get_or, slice_get, unwrap_or, position, refl, sym, ◌∙◌, ap, subst}
+use Rattle.std.proofs.Common.{◌≡◌, ℕ, ◌+◌, ◌*◌, ◌/◌, ◌%◌, ◌<◌, ◌≤◌, ◌==◌, List, All, Contains, Option, Some, None, IsTrue, true, false, true≢false, length, get_or, slice_get, unwrap_or, position, refl, sym, ◌∙◌, ap, subst}
 use Rattle.std.proofs.Common.{arith, eqb-true, eq-eqb}
 use Rattle.std.proofs.lemmas.Nat.{div-add-mod'}
-use Rattle.std.proofs.Math.Nat.{mul-mod_left}
+use Rattle.std.proofs.Math.Nat.{add-mul-mod_self_right}
 use Rattle.std.proofs.lemmas.Option.{slice_get_within, get_or_from_slice_get}
 use Rattle.std.proofs.lemmas.List.Quantifiers.{position-Some}
 use Rattle.std.proofs.lemmas.List.Elements.{All-get_or, All-contains}
@@ -10,7 +10,7 @@ use Rattle.std.proofs.lemmas.List.Sums.{fails_before_first}
 use Rattle.buck_record.proofs.TableLemmas.{place-none}
 use Rattle.buck_apt.specs.Instruction.{InstructionParts, AssortmentParts, IsAssortment, IsInstruction, IsClass, IsOnModule}
 use Rattle.buck_apt.specs.declared.class.Class.{Class}
-use Rattle.buck_stem.specs.Stem.{StemParts, HasGradesOf, grade_at}
+use Rattle.buck_stem.specs.Stem.{StemParts, HasGradesOf}
 use Rattle.buck_value.specs.declared.log.Log.{Log}
 use Rattle.buck_value.specs.Sheet.{SheetParts, price_of}
 use Rattle.buck_value.specs.Volume.{volume, worth_at}
@@ -46,15 +46,13 @@ pub grades_fail : (zones : List (ℕ × ℕ)) (a b e : ℕ) (grades gs : List �
     → (IsTrue false → HasGradesOf zones a e gs) × (HasGradesOf zones a e gs → IsTrue false)
     → gs ≡ grades → e ≡ b
     → HasGradesOf zones a b grades → ⊥
-grades_fail zones a b e grades gs iff same end has =
-    true≢false (sym (iff.1 (λ x le lt. subst (λ g. Contains g (grade_at zones x)) (sym same) (has x le (omega arith)))))
+grades_fail zones a b e grades gs iff same end has = true≢false (sym (iff.1 (rw (same, end) has)))
 
 pub grades_pass : (zones : List (ℕ × ℕ)) (a b e : ℕ) (grades gs : List ℕ)
     → (IsTrue true → HasGradesOf zones a e gs) × (HasGradesOf zones a e gs → IsTrue true)
     → gs ≡ grades → e ≡ b
     → HasGradesOf zones a b grades
-grades_pass zones a b e grades gs iff same end x le lt =
-    subst (λ g. Contains g (grade_at zones x)) same (iff.0 refl x le (omega arith))
+grades_pass zones a b e grades gs iff same end = rw (same, end) at (iff.0 refl)
 
 -- a multiple of a step, in steps
 pub whole_steps : (l step : ℕ) → l % step ≡ 0 → l / step * step ≡ l
@@ -66,14 +64,9 @@ pub ends_on : (step : ℕ) (a : AssortmentParts) (g : Log) (column : ℕ) → Is
 ends_on step a g column lengths on at =
     let long : g.length % step ≡ 0 =
     All-contains (λ l. l % step ≡ 0) a.lengths g.length lengths (column_some a.lengths g.length column at).1 in
-    ap (λ n. n % step)
-    (omega (
-      arith,
-      whole_steps g.start step on,
-      whole_steps g.length step long,
-      add-mul (g.start / step) (g.length / step) step,
-    ))
-    ∙ mul-mod_left (g.start / step + g.length / step) step
+    ap (λ l. (g.start + l) % step) (sym (whole_steps g.length step long))
+    ∙ add-mul-mod_self_right g.start (g.length / step) step
+    ∙ on
 
 -- what holds of each assortment holds of the one at a place
 pub at_place : (P : AssortmentParts → Type 0) (xs : List AssortmentParts) (n : ℕ) (a : AssortmentParts) → All P xs
@@ -124,13 +117,7 @@ pub worth_by_class : (s : SheetParts) (stem : StemParts) (g : Log) (class : Clas
     ≡ worth_of s stem g
 unfolding worth_of
 worth_by_class s stem g class top is_class is_top =
-    let all = s.instruction.assortments in
-    let place : class.assortment ≡ g.assortment =
-    ap (λ (k : Class). k.assortment) is_class ∙ class_assortment (slice_get all g.assortment) stem g in
-    ap (λ a. worth_at (kind_in (slice_get all a)) (price_of s class) (volume top g.length)) place
-    ∙ ap (λ k. worth_at (kind_in (slice_get all g.assortment)) (price_of s k) (volume top g.length)) is_class
-    ∙ ap (λ d. worth_at (kind_in (slice_get all g.assortment)) (price_of s (class_of s.instruction stem g))
-    (volume d g.length)) is_top
+    rw (is_class, is_top, class_assortment (slice_get s.instruction.assortments g.assortment) stem g) refl
 
 -- what the worth of an allowed log goes by
 pub ruleset valuing = (stands, slice_get_within, class_is_class, allowed_low, worth_by_class)

@@ -1,7 +1,7 @@
 -- Base prices, class by class, and prices within their spans.
-use Rattle.std.proofs.Common.{◌≡◌, ℕ, ◌+◌, ◌*◌, ◌<◌, ◌≤◌, inl, inr, List, [], ◌∷◌, length, take, get_or, slice_index, sum_by, All, refl, sym, ◌∙◌, ap, subst, arith, mul-le-mul_left}
+use Rattle.std.proofs.Common.{◌≡◌, ℕ, ◌+◌, ◌*◌, ◌<◌, ◌≤◌, inl, inr, List, [], ◌∷◌, length, length-append, take, get_or, slice_index, sum_by, All, refl, sym, ◌∙◌, ap, subst, arith, mul-le-mul_left}
 use Rattle.std.specs.List.{flat_map, AllByRecursion}
-use Rattle.std.proofs.lemmas.List.Concat.{get_or-flat_map, length-flat_map}
+use Rattle.std.proofs.lemmas.List.Concat.{get_or-flat_map}
 use Rattle.std.proofs.lemmas.List.Elements.{All-append, recursion_from_All}
 use Rattle.std.proofs.lemmas.List.{get_or_past}
 use Rattle.std.proofs.lemmas.List.Folds.{length-flat_map-take}
@@ -11,23 +11,29 @@ use Rattle.std.proofs.lemmas.Grind.{get_or_default_zero}
 use Rattle.buck_apt.specs.Instruction.{InstructionParts, AssortmentParts, IsInstruction, IsAssortment, classes, classes_of}
 use Rattle.buck_value.specs.Sheet.{SheetParts, IsSheet, base_prices, span, IsPriceAt, sheet_of}
 
-sum-same : (as_ : List AssortmentParts) → AllByRecursion IsAssortment as_
-    → sum_by (λ a. length a.prices) as_ ≡ sum_by classes_of as_
-sum-same [] h = refl
-sum-same (a ∷ as_) h =
+length_bases : (as_ : List AssortmentParts) → AllByRecursion IsAssortment as_
+    → length (flat_map (λ a. a.prices) as_) ≡ sum_by classes_of as_
+length_bases [] h = refl
+length_bases (a ∷ as_) h =
     omega (
       arith,
       h.0.prices_number,
-      sum-same as_ h.1,
-      sum_by-cons (λ a. length a.prices) a as_,
+      length_bases as_ h.1,
+      length-append a.prices (flat_map (λ a. a.prices) as_),
       sum_by-cons classes_of a as_,
     )
 
 -- one base price for each class
 pub length-base_prices : (i : InstructionParts) → IsInstruction i → length (base_prices i) ≡ classes i
 length-base_prices i v =
-    length-flat_map (λ a. a.prices) i.assortments
-    ∙ sum-same i.assortments (recursion_from_All IsAssortment i.assortments v.assortments_valid)
+    length_bases i.assortments (recursion_from_All IsAssortment i.assortments v.assortments_valid)
+
+-- a number of a list of which none is above a bound, or the 0 past its end
+low_at : (xs : List ℕ) (k most : ℕ) → All (λ x. x ≤ most) xs → slice_index xs k ≤ most
+low_at xs k most all = elim (cases_lt k (length xs)) [
+  | inl lt ↦ all k 0 lt
+  | inr ge ↦ omega (arith, get_or_past xs k 0 ge)
+]
 
 all_low : (as_ : List AssortmentParts) → AllByRecursion IsAssortment as_
     → All (λ p. p ≤ 10000000) (flat_map (λ a. a.prices) as_)
@@ -36,31 +42,24 @@ all_low (a ∷ as_) h =
     All-append (λ p. p ≤ 10000000) a.prices (flat_map (λ a. a.prices) as_) h.0.prices_range (all_low as_ h.1)
 
 pub base_price-le : (i : InstructionParts) (k : ℕ) → IsInstruction i → slice_index (base_prices i) k ≤ 10000000
-base_price-le i k v = elim (cases_lt k (length (base_prices i))) [
-  | inl lt ↦ all_low i.assortments (recursion_from_All IsAssortment i.assortments v.assortments_valid) k 0 lt
-  | inr ge ↦ omega (arith, get_or_past (base_prices i) k 0 ge)
-]
+base_price-le i k v =
+    low_at (base_prices i) k 10000000
+    (all_low i.assortments (recursion_from_All IsAssortment i.assortments v.assortments_valid))
 
 pub span-le : (limit base : ℕ) → limit ≤ 1000 → span limit base ≤ base
 span-le limit base le = let h : base * limit ≤ base * 1000 = mul-le-mul_left base le in omega arith
 
 -- no price of a sheet is above 20,000,000
+pub prices_low : (s : SheetParts) → IsSheet s → All (λ p. p ≤ 20000000) s.prices
+prices_low s v = λ k d lt.
+    let base = base_price-le s.instruction k v.valid in
+    let span = span-le s.instruction.limit (slice_index (base_prices s.instruction) k) v.valid.limit_range in
+    rw (get_or_default_zero s.prices k d lt) (omega (arith, (v.in_span k lt).1, base, span))
+
 pub price-le : (s : SheetParts) (k : ℕ) → IsSheet s → slice_index s.prices k ≤ 20000000
-price-le s k v = elim (cases_lt k (length s.prices)) [
-  | inl lt ↦
-      omega (
-        arith,
-        (v.in_span k lt).1,
-        base_price-le s.instruction k v.valid,
-        span-le s.instruction.limit (slice_index (base_prices s.instruction) k) v.valid.limit_range,
-      )
-  | inr ge ↦ omega (arith, get_or_past s.prices k 0 ge)
-]
+price-le s k v = low_at s.prices k 20000000 (prices_low s v)
 
 pub ruleset low_prices = (price-le)
-
-pub prices_low : (s : SheetParts) → IsSheet s → All (λ p. p ≤ 20000000) s.prices
-prices_low s v = λ k d lt. rw (get_or_default_zero s.prices k d lt) (price-le s k v)
 
 -- base prices lie within their own spans
 pub base_in_span : (i : InstructionParts) (k : ℕ) → IsPriceAt i (base_prices i) k

@@ -41,39 +41,33 @@ last_is d (x ∷ xs) = more (last_position (λ limit. nat_le limit d) xs) (last_
     ]
 
 module _ (a : AssortmentParts) (d : ℕ) where
-  abbrev last : Option ℕ
-  last = last_position (λ limit. nat_le limit d) a.diameters
+  abbrev IsFound : ℕ → Type 0
+  IsFound row =
+      (row < length a.diameters)
+      × (0 < row → slice_index a.diameters row ≤ d)
+      × (slice_index a.diameters 0 ≤ d → slice_index a.diameters row ≤ d)
+      × AreAbove d (row + 1) a.diameters
+
+  row_is : 0 < length a.diameters → IsFound (row_at a d)
+  row_is some = of (last_position (λ limit. nat_le limit d) a.diameters) (last_is d a.diameters)
+    where
+      of : (o : Option ℕ) → IsLast d a.diameters o → IsFound (unwrap_or o 0)
+      of None above = (some, λ lt. absurd (omega (arith, lt)), λ le. le, λ k low. above k (omega arith))
+      of (Some m) is = (is.0, λ _. is.1, λ _. is.1, is.2)
 
   -- it is one of the assortment's
   pub row_within : IsAssortment a → row_at a d < length a.diameters
-  row_within v = of last (last_is d a.diameters)
-    where
-      of : (o : Option ℕ) → IsLast d a.diameters o → unwrap_or o 0 < length a.diameters
-      of None above = omega (arith, v.rows)
-      of (Some m) is = is.0
+  row_within v = (row_is (omega (arith, v.rows))).0
 
   -- it is the last whose lower limit is at most the diameter
   pub row_is_last : IsAssortment a → slice_index a.diameters 0 ≤ d → IsRow a d (row_at a d)
-  row_is_last v low = of last (last_is d a.diameters)
-    where
-      of : (o : Option ℕ) → IsLast d a.diameters o → IsRow a d (unwrap_or o 0)
-      of None above = absurd (omega (arith, low, above 0 (omega arith) (omega (arith, v.rows))))
-      of (Some m) is = record { exists = is.0; reached = is.1; last = λ k lt. is.2 k (omega (arith, lt)) }
+  row_is_last v low =
+      let r = row_is (omega (arith, v.rows)) in
+      record { exists = r.0; reached = r.2 low; last = λ k lt. r.3 k (omega (arith, lt)) }
 
   -- the only one from which on the limits are above the diameter, which is at most that or the first
   pub row_found : (row : ℕ) → row < length a.diameters → (0 < row → slice_index a.diameters row ≤ d)
       → ((k : ℕ) → row < k → k < length a.diameters → d < slice_index a.diameters k) → row_at a d ≡ row
-  row_found row within reached later = of last (last_is d a.diameters)
-    where
-      of : (o : Option ℕ) → IsLast d a.diameters o → unwrap_or o 0 ≡ row
-      of None above = elim (cases_lt 0 row) [
-        | inl some ↦ absurd (omega (arith, reached some, above row (omega arith) within))
-        | inr none ↦ omega (arith, none)
-      ]
-      of (Some m) is = elim (cases_lt row m) [
-        | inl before ↦ absurd (omega (arith, is.1, later m before is.0))
-        | inr from ↦ elim (cases_lt m row) [
-          | inl after ↦ absurd (omega (arith, reached (omega (arith, after)), is.2 row (omega (arith, after)) within))
-          | inr to ↦ omega (arith, from, to)
-        ]
-      ]
+  row_found row within reached later =
+      let r = row_is (omega (arith, within)) in
+      grind (arith, r.0, r.1, r.3 row, reached, later (row_at a d), within)

@@ -7,7 +7,7 @@ ghost use Rattle.buck_value.specs.Prepared.{points_of, lengths_of, log_at};
 
 use crate::log::Log;
 use crate::sheet::Sheet;
-use crate::worth::{measure, worth_by};
+use crate::worth::{measure, worth_in_class};
 use buck_apt::Class;
 use buck_record::Memory;
 use buck_stem::{Profile, Stem};
@@ -97,6 +97,7 @@ impl<'s, 't> Prepared<'s, 't> {
 
     /// Gives the worth of the log of point `i`, an assortment and a column, in millionths of the price unit, or `None`
     /// if it isn't allowed.
+    #[tactic(auto, using(crate::proofs::Classes::valuing))]
     pub fn worth(&self, i: usize, assortment: usize, column: usize) -> Option<u64>
         requires i { i < points_of self.now }
         requires assortment { assortment < length self.now.sheet.instruction.assortments }
@@ -109,6 +110,7 @@ impl<'s, 't> Prepared<'s, 't> {
             (IsAllowed self.now.sheet.instruction self.now.stem (log_at self.now i assortment column) → ⊥) }
     {
         let log = self.log(i, assortment, column);
-        worth_by(self.sheet, self.stem, Some(&self.profile), &log)
+        let found = measure(self.sheet, self.stem, Some(&self.profile), &log)?;
+        Some(worth_in_class(self.sheet, found.class, found.top, log.length))
     }
 }

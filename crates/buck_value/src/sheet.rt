@@ -57,6 +57,7 @@ fn is_in_span(limit: u32, base: u32, price: u32) -> bool
 
 impl Sheet {
     /// The sheet of version 0: each class has its base price. `Memory` if no list of the prices could be made.
+    #[tactic(auto, using(crate::proofs::Prices::base_sheet))]
     pub fn base(alloc: Global, instruction: Arc<Instruction>) -> Result<Sheet, Memory>
         ensures { IfOk result (λ s.
             s ≡ sheet_of 0 instruction.value (base_prices instruction.value)) }

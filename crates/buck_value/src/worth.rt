@@ -120,7 +120,7 @@ fn wood_between(
 #[derive(Clone, Copy)]
 pub(crate) struct Measured {
     pub(crate) class: Class,
-    top: u32,
+    pub(crate) top: u32,
 }
 
 /// The class and the top diameter of a log of an assortment, or `None` if that doesn't allow it. They are read from
@@ -213,15 +213,12 @@ pub fn class_of(
         length,
         assortment,
     };
-    match measure(sheet, stem, None, &log) {
-        None => None,
-        Some(found) => Some(found.class),
-    }
+    Some(measure(sheet, stem, None, &log)?.class)
 }
 
 /// What a log of a class, a top diameter and a length in mm is worth.
 #[tactic(auto, using(crate::proofs::Prices::low_prices))]
-fn worth_in_class(sheet: &Sheet, class: Class, top: u32, length: u32) -> u64
+pub(crate) fn worth_in_class(sheet: &Sheet, class: Class, top: u32, length: u32) -> u64
     requires class { IsClass sheet.now.instruction class }
     requires top { top ≤ 2000 }
     requires length { length ≤ 30000 }
@@ -243,29 +240,9 @@ pub struct Valuation {
     pub worth: u64,
 }
 
-/// What a log is worth, or `None` if it isn't allowed, from the stem's tables for the sheet's module if there are any.
-#[tactic(auto, using(crate::proofs::Classes::valuing))]
-pub(crate) fn worth_by(
-    sheet: &Sheet,
-    stem: &Stem,
-    tables: Option<&Profile<'_>>,
-    log: &Log,
-) -> Option<u64>
-    requires { IfSome tables (λ q. q.now ≡ profile_of stem.now sheet.now.instruction.«module») }
-    ensures allowed { IfSome result (λ _. IsAllowed sheet.now.instruction stem.now log.now) }
-    ensures worth { IfSome result (λ w. w ≡ worth_of sheet.now stem.now log.now) }
-    ensures none { IfNone result (IsAllowed sheet.now.instruction stem.now log.now → ⊥) }
-    ensures valid { IsSheet sheet.now }
-    ensures stem { IfSome result (λ _. IsStem stem.now) }
-{
-    match measure(sheet, stem, tables, log) {
-        None => None,
-        Some(found) => Some(worth_in_class(sheet, found.class, found.top, log.length)),
-    }
-}
-
 /// Gives the worth of a log under a sheet, in millionths of the price unit, or `None` if it isn't allowed; see
 /// [`class_of`] and [`log_worth`]. Any log may be asked for. It takes no memory.
+#[tactic(auto, using(crate::proofs::Classes::valuing))]
 pub fn worth_if_allowed(sheet: &Sheet, stem: &Stem, log: &Log) -> Option<u64>
     ensures allowed { IfSome result (λ _. IsAllowed sheet.now.instruction stem.now log.now) }
     ensures worth { IfSome result (λ w. w ≡ worth_of sheet.now stem.now log.now) }
@@ -273,7 +250,8 @@ pub fn worth_if_allowed(sheet: &Sheet, stem: &Stem, log: &Log) -> Option<u64>
     ensures valid { IsSheet sheet.now }
     ensures stem { IfSome result (λ _. IsStem stem.now) }
 {
-    worth_by(sheet, stem, None, log)
+    let found = measure(sheet, stem, None, log)?;
+    Some(worth_in_class(sheet, found.class, found.top, log.length))
 }
 
 /// The class, the top diameter and the worth of a log that is allowed under a sheet. It takes no memory.
