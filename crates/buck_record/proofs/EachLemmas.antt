@@ -31,7 +31,8 @@ unfolding adds_on numbers_of
 none_yet text = start _
 
 pub add : (now rest : List ℕ) (v : ℕ) → 0 < length (first_word rest)
-    → number_at_most 4294967295 (first_word rest) ≡ Some v → adds_on (now ++ v ∷ []) (after_word rest) ≡ adds_on now rest
+    → number_at_most 4294967295 (first_word rest) ≡ Some v
+    → adds_on (now ++ v ∷ []) (after_word rest) ≡ adds_on now rest
 unfolding adds_on each_from
 add now rest v filled value = rw (words-more rest _ filled refl, value, length_push now v) (sym (regroup now v _))
 
@@ -70,7 +71,8 @@ pub after_short : (rest : List ℕ) → 0 < length (first_word rest) → (length
 unfolding first_word after_word
 after_short rest filled =
     let p = position_or_len is_white rest in
-    omega (arith, filled, bounded is_white rest, length-take-le p rest (bounded is_white rest), length-drop (p + 1) rest)
+    let most = bounded is_white rest in
+    omega (arith, filled, most, length-take-le p rest most, length-drop (p + 1) rest)
 
 pub ruleset word_steps = (pass, add, stuck, after_short, filled_word)
 
@@ -113,12 +115,14 @@ at_done true slots held read = ap (λ is. Ok is) (append-nil held)
 at_done false slots held read = ap (λ is. Ok is) (append-nil held)
 
 at_piece : (every : Bool) (slots : List Slot) (held : List ItemParts) (read : ℕ) (rest : List (List ℕ))
-    (o : Option ItemParts) → with_front held (kept every slots (put_front o (read + 1) (each_from item_of (read + 1 + 1) rest)))
+    (o : Option ItemParts)
+    → with_front held (kept every slots (put_front o (read + 1) (each_from item_of (read + 1 + 1) rest)))
     ≡ reads_next every slots held read rest o
 unfolding reads_at
 at_piece true slots held read rest None = refl
 at_piece false slots held read rest None = refl
-at_piece every slots held read rest (Some item) = kept_front every slots held item (each_from item_of (read + 1 + 1) rest)
+at_piece every slots held read rest (Some item) =
+    kept_front every slots held item (each_from item_of (read + 1 + 1) rest)
 
 pub at_next : (every : Bool) (slots : List Slot) (held : List ItemParts) (read : ℕ) (piece : List ℕ)
     (rest : List (List ℕ))

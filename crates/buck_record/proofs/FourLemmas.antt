@@ -75,8 +75,8 @@ front-three text v w long byte is t =
     let d1 = digit (get_or text 1 0) t.b t.digits.1 at.1 in
     let d2 = digit (get_or text 2 0) t.c t.digits.2 at.2 in
     let digits : AreDigits (take 3 text) =
-    digits_more text 2 (digits_more text 1 (digits_more text 0 refl (omega arith) d0.0) (omega arith) d1.0) (omega arith)
-    d2.0 in
+    digits_more text 2 (digits_more text 1 (digits_more text 0 refl (omega arith) d0.0) (omega arith) d1.0)
+    (omega arith) d2.0 in
     let value : digits_value 10 (take 3 text) ≡ v =
     omega (
       arith,
@@ -88,10 +88,11 @@ front-three text v w long byte is t =
       digits_value_more 10 text 1 (omega arith),
       digits_value_more 10 text 2 (omega arith),
     ) in
+    let size = length-take-le 3 text (omega arith) in
     let word = word_ends text 3 digits (omega arith) (λ _. rw at.3 refl) in
     record {
-      filled = rw word.1 (omega (arith, length-take-le 3 text (omega arith)));
-      value = rw word.1 (number-some 4294967295 (take 3 text) digits (omega (arith, length-take-le 3 text (omega arith)))
+      filled = rw word.1 (omega (arith, size));
+      value = rw word.1 (number-some 4294967295 (take 3 text) digits (omega (arith, size))
           (omega (arith, value, t.value, t.digits)) ∙ ap Some value);
       after = sym word.2;
     }

@@ -80,8 +80,10 @@ module _ (n : ℕ) (lt : n < 2 ^ 64) where
         position_or_len_is is_white (xs ++ w ∷ rest) (length xs) 0 (omega (arith, length-append xs (w ∷ rest)))
         (λ k l. rw (get_or_append_left xs (w ∷ rest) 0 k l) (dark n lt k 0 l))
         (λ _. rw (get_or-append_seam xs w rest 0) white) in
-        rw p
-        (take-append_seam xs (w ∷ rest), rw append_assoc at (drop_at (xs ++ w ∷ []) rest (length xs + 1) (length_push xs w)))
+        rw p (
+          take-append_seam xs (w ∷ rest),
+          rw append_assoc at (drop_at (xs ++ w ∷ []) rest (length xs + 1) (length_push xs w)),
+        )
 
 -- a line feed before the parts of a file makes no difference
 feed_first : (parts : List (List ℕ)) → filled_parts (onto_first 10 parts) ≡ filled_parts parts

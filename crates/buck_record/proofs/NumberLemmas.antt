@@ -40,9 +40,9 @@ digits_more text i digits inside digit = rw (list_all_more is_ascii_digit text i
 module _ (text : List ℕ) (i : ℕ) (digits : AreDigits (take i text)) where
   dark : i ≤ length text → (k : ℕ) → k < i → is_white (get_or text k 0) ≡ false
   dark within k lt =
+      let inside : k < length (take i text) = omega (arith, length-take-le i text within, lt) in
       digit_dark (get_or text k 0)
-      (rw (get_or-take i text k 0 lt)
-      at (AllPass-from_list_all is_ascii_digit (take i text) digits k 0 (omega (arith, length-take-le i text within, lt))))
+      (rw (get_or-take i text k 0 lt) at (AllPass-from_list_all is_ascii_digit (take i text) digits k 0 inside))
 
   -- the word goes on past a byte that isn't white: it has the digits at its front, and the byte after them
   pub word_goes_on : i < length text → is_white (get_or text i 0) ≡ false

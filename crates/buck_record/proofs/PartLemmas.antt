@@ -40,7 +40,8 @@ module _ {X Y : Type 0} (f : X → Option Y) (qs : List X) (ys : List Y) (back :
   with_end (Ok xs) = Ok (xs ++ ys)
   with_end (Err place) = Err place
 
-  put_end : (o : Option Y) (k : ℕ) (read : Result (List Y) ℕ) → put_front o k (with_end read) ≡ with_end (put_front o k read)
+  put_end : (o : Option Y) (k : ℕ) (read : Result (List Y) ℕ)
+      → put_front o k (with_end read) ≡ with_end (put_front o k read)
   put_end None k read = refl
   put_end (Some y) k (Ok xs) = refl
   put_end (Some y) k (Err place) = refl

@@ -24,8 +24,8 @@ IsBare item = trim item.rest ≡ item.rest
 abbrev pub AreBare : List ItemParts → Type 0
 AreBare items = AllByRecursion IsBare items
 
-of_parts : (o p : Option ℕ) (r : List ℕ)
-    → IfSome (option_and_then (λ n. option_and_then (λ k. Some (record { number = n; kind = k; rest = trim r })) p) o) IsBare
+of_parts : (o p : Option ℕ) (r : List ℕ) → IfSome
+    (option_and_then (λ n. option_and_then (λ k. Some (record { number = n; kind = k; rest = trim r })) p) o) IsBare
 of_parts None p r = tt
 of_parts (Some n) None r = tt
 of_parts (Some n) (Some k) r = trim_again r
@@ -61,7 +61,8 @@ unfolding items_of
 kept_bare fault slots bytes kept h = rw h at (of_read fault slots (items_of bytes) (each_bare 1 (pieces bytes)))
 
 take_bare : (n : ℕ) (items : List ItemParts) → AreBare items → AreBare (take n items)
-take_bare n items h = recursion_from_All IsBare (take n items) (All-take IsBare n items (All-from_recursion IsBare items h))
+take_bare n items h =
+    recursion_from_All IsBare (take n items) (All-take IsBare n items (All-from_recursion IsBare items h))
 
 pub groups_bare : (s : Slot) (items : List ItemParts) → AreBare items → AllByRecursion AreBare (groups_of s items)
 unfolding groups_of

@@ -1,5 +1,5 @@
 -- White bytes, and texts without them at their ends.
-use Rattle.std.proofs.Common.{◌≡◌, ℕ, ◌+◌, ◌-◌, ◌<◌, Bool, false, true, List, [], ◌∷◌, get_or, length, reverse, take, drop, sym, refl, ap, ◌∙◌, arith, inl, inr, ◌⊎◌, rules}
+use Rattle.std.proofs.Common.{◌≡◌, ℕ, ◌+◌, ◌-◌, ◌<◌, false, true, List, [], ◌∷◌, get_or, length, reverse, take, drop, sym, refl, ap, ◌∙◌, arith, inl, inr, ◌⊎◌, rules}
 use Rattle.std.specs.List.{suffix_len, prefix_len}
 use Rattle.std.proofs.Math.Nat.{add-zero}
 use Rattle.std.proofs.lemmas.Bool.{cases_lt}
@@ -26,7 +26,8 @@ unfolding trim_end
 end_past xs some white =
     let n = length xs - 1 in
     let more : suffix_len is_white xs ≡ 1 + suffix_len is_white (take n xs) =
-    rw (take_all (length xs) xs (omega arith)) at (suffix_len-take_yes is_white xs (length xs) 0 some (omega arith) white) in
+    rw (take_all (length xs) xs (omega arith))
+    at (suffix_len-take_yes is_white xs (length xs) 0 some (omega arith) white) in
     let less : length xs - (1 + suffix_len is_white (take n xs)) ≡ n - suffix_len is_white (take n xs) = omega arith in
     rw (more, less, length-take-le n xs (omega arith))
     (take-take (n - suffix_len is_white (take n xs)) n xs (omega arith))
@@ -56,7 +57,8 @@ unfolding trim_start
 start_cases xs =
     let n = prefix_len is_white xs in
     elim (cases_lt n (length xs)) [
-      | inl lt ↦ inr (omega (arith, length-drop n xs), rw (get_or-drop n xs 0 0, add-zero) (prefix_len_stops is_white xs 0 lt))
+      | inl lt ↦
+          inr (omega (arith, length-drop n xs), rw (get_or-drop n xs 0 0, add-zero) (prefix_len_stops is_white xs 0 lt))
       | inr le ↦ inl (drop_all n xs le)
     ]
 
@@ -70,7 +72,8 @@ end_cases xs s =
       | inl lt ↦
           let size : length (take m xs) ≡ m = length-take-le m xs (omega arith) in
           let last : is_white (get_or xs (length xs - 1 - n) 0) ≡ false =
-          rw (get_or-reverse xs n 0 lt) at (prefix_len_stops is_white (reverse xs) 0 (omega (arith, length-reverse xs))) in
+          rw (get_or-reverse xs n 0 lt)
+          at (prefix_len_stops is_white (reverse xs) 0 (omega (arith, length-reverse xs))) in
           let back : length xs - 1 - n ≡ m - 1 = omega arith in
           inr (
             (omega (arith, size), rw (get_or-take m xs 0 0 (omega arith)) s.1),

@@ -1,15 +1,13 @@
 -- The words of a text, one after the other, and its pieces.
 use Rattle.std.proofs.Common.{◌≡◌, ℕ, ◌+◌, ◌<◌, ◌≤◌, Bool, true, false, not, List, [], ◌∷◌, length, get_or, filter, refl, sym, ap, ◌∙◌, arith, inl, inr, take_all, length-take-le}
 use Rattle.std.specs.List.{slice_split, before_first, after_first, position_or_len}
-use Rattle.std.proofs.lemmas.List.{drop_all}
+use Rattle.std.proofs.lemmas.List.{drop_all, nil_from_length}
 use Rattle.std.proofs.lemmas.List.Splits.{slice_split_none, slice_split_first, slice_split-cons_yes}
 use Rattle.std.proofs.lemmas.List.Sums.{prefix_len-le-length, fails_before_first}
 use Rattle.std.proofs.lemmas.Bool.{cases_Bool, cond-true, lt-ltb, cases_lt}
-use Rattle.std.proofs.lemmas.Grind.{common_steps}
 use Rattle.buck_record.specs.bytes.White.{is_white, is_filled}
 unfoldable use Rattle.buck_record.specs.bytes.White.{trim_start, trim_end, first_word, after_word, words}
 use Rattle.buck_record.specs.bytes.Record.{is_tilde, filled_parts, pieces}
-
 use Rattle.buck_record.proofs.WhiteLemmas.{start_white, start_cases}
 
 pub bounded : {X : Type 0} (p : X → Bool) (xs : List X) → position_or_len p xs ≤ length xs
@@ -35,8 +33,7 @@ pieces-first text = split-first filled_parts (λ t. refl) is_tilde text
 
 pub pieces_none : (text : List ℕ) → length text ≡ 0 → pieces text ≡ []
 unfolding trim_start trim_end
-pieces_none [] h = refl
-pieces_none (b ∷ bs) h = absurd (omega arith)
+pieces_none text h = rw (nil_from_length text h) refl
 
 pub words-cons_white : (b : ℕ) (bs : List ℕ) → is_white b ≡ true → words (b ∷ bs) ≡ words bs
 unfolding words
@@ -53,8 +50,7 @@ words-trim_start (b ∷ bs) =
 
 pub words-none_left : (rest : List ℕ) → length rest ≡ 0 → words rest ≡ []
 unfolding words
-words-none_left [] h = refl
-words-none_left (b ∷ bs) h = absurd (omega arith)
+words-none_left rest h = rw (nil_from_length rest h) refl
 
 pub words_none : (bs : List ℕ) → length (trim_start bs) ≡ 0 → words bs ≡ []
 words_none bs h = sym (words-trim_start bs) ∙ words-none_left (trim_start bs) h
@@ -72,7 +68,8 @@ pub filled_word : (text : List ℕ) → 0 < length text → is_white (get_or tex
 unfolding first_word
 filled_word [] some dark = absurd (omega arith)
 filled_word (b ∷ bs) some dark =
-    rw dark (omega (arith, length-take-le (1 + position_or_len is_white bs) (b ∷ bs) (omega (arith, bounded is_white bs))))
+    let size = length-take-le (1 + position_or_len is_white bs) (b ∷ bs) (omega (arith, bounded is_white bs)) in
+    rw dark (omega (arith, size))
 
 start_filled : (bs : List ℕ) → 0 < length (trim_start bs) → 0 < length (first_word (trim_start bs))
 start_filled bs h =

@@ -1,12 +1,10 @@
 //! The items of a file, and the numbers of a text.
-ghost use Rattle.std.specs.Prelude.{◌≡◌, ◌<◌, ◌≤◌, IfOk, IfSome, length};
-ghost use Rattle.std.specs.Option.{option_map};
+ghost use Rattle.std.specs.Prelude.{◌≡◌, ◌≤◌, IfOk};
 ghost use Rattle.buck_record.specs.declared.fault.RecordFault.TheVariants.{Memory, Head, Digits};
 ghost use Rattle.buck_record.specs.Reading.{Gives, listed, with_fault};
-ghost use Rattle.buck_record.specs.bytes.Record.{item_of, items_of, number_at_most, numbers_of, number_of};
+ghost use Rattle.buck_record.specs.bytes.Record.{item_of, items_of, numbers_of, number_of};
 ghost use Rattle.buck_record.specs.checking.Table.{only_in};
 ghost use Rattle.buck_record.specs.inner.Front.{kept};
-ghost use Rattle.buck_record.specs.bytes.White.{first_word, after_word};
 
 use crate::bytes::digits::cut_head;
 use crate::bytes::white::{trim, trim_start};

@@ -1,5 +1,5 @@
 //! Items by number and kind, and groups of items.
-ghost use Rattle.std.specs.Prelude.{◌≡◌, ◌<◌, ◌+◌, length, take, drop, IfOk, map, find, position};
+ghost use Rattle.std.specs.Prelude.{◌≡◌, ◌<◌, ◌+◌, length, take, drop, IfOk, find, position};
 ghost use Rattle.std.specs.List.{before_first};
 ghost use Rattle.std.specs.Option.{option_copied};
 ghost use Rattle.buck_record.specs.checking.Table.{is_at, is_in, count_in, rest_in, first_missing, first_twice, groups_of};

@@ -1,5 +1,5 @@
 //! The numbers of a text, in a list that is kept from text to text.
-ghost use Rattle.std.specs.Prelude.{◌≡◌, ◌+◌, ◌*◌, ◌<◌, ◌≤◌, ◌++◌, length, IsTrue, IsFalse, IfOk, IfSome, IfNone, OnErr, None, Ok, Err, []};
+ghost use Rattle.std.specs.Prelude.{◌≡◌, ◌+◌, ◌<◌, ◌≤◌, ◌++◌, length, IsTrue, IsFalse, IfOk, IfSome, IfNone, OnErr, None, Ok, Err, []};
 ghost use Rattle.std.specs.Vec.{vec_len, vec_capacity};
 ghost use Rattle.buck_record.specs.bytes.Record.{numbers_of};
 ghost use Rattle.buck_record.specs.inner.Front.{adds_on, HasRoom, four_of};

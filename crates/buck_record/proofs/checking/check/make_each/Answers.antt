@@ -10,7 +10,8 @@ unfolding make_each
 returns-in_err-f g c = λ memory f remembers makes.
     let p = err_from_is_err_and c.from_residual-in_err-f.result c.from_residual-in_err-f.ensures.1 in
     let at = here c.args.xs.now c.loop-x.x-index c.x-item.result c.loop-x-test.true c.x-item.is in
-    rw (p.1, p.2) (λ ne. sym (rw (at, makes _ _ c.in_err-f.ensures ne) at (c.loop-x.invariant memory f remembers makes)))
+    rw (p.1, p.2)
+    (λ ne. sym (rw (at, makes _ _ c.in_err-f.ensures ne) at (c.loop-x.invariant memory f remembers makes)))
 
 pub loop-x-preserved : goal.loop-x-preserved
 unfolding make_each
