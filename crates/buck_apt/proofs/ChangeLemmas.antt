@@ -103,3 +103,5 @@ changed_is Nothing i ns =
 changed_is Grades i ns = ap (λ xs. with_assortments i xs) (by_itself taking_all ns i.assortments)
 changed_is Prices i ns = refl
 changed_is Targets i ns = refl
+
+pub ruleset changes = (changed_valid, each_valid, changed_is)

@@ -96,26 +96,23 @@ draft_ready d named in_ranges ordered counted_all few =
     let c7 = passed (length d.prices == length d.diameters * length d.lengths) _ _ c6.1 in
     let c8 = passed (length d.targets == length d.diameters * length d.lengths) _ _ c7.1 in
     let name = both (one_to LONGEST_NAME (length d.name)) (list_all is_name_byte d.name) r1.0 in
-    let names : All (λ b. IsNameByte b) d.name =
+    let name_length = within_ok 1 LONGEST_NAME (length d.name) name.0 in
+    let name_bytes : All (λ b. IsNameByte b) d.name =
     λ k b lt. name_byte_ok _ (AllPass-from_list_all is_name_byte d.name name.1 k b lt) in
     let species = one_number d.species c1.0 in
     let price_kind = one_number d.price_kind c3.0 in
     let upper = one_number d.upper c5.0 in
     let trim = one_number d.trim (counted_ok Count TRIM 1 d.trim c8.1) in
+    let species_range = one_of SPECIES d.species r2.0 species in
+    let price_kind_range = one_of PRICE_KIND d.price_kind r4.0 price_kind in
+    let upper_range = one_of UPPER d.upper r6.0 upper in
+    let trim_range = one_of TRIM d.trim r10 trim in
     record {
       species = species;
       price_kind = price_kind;
       upper = upper;
       trim = trim;
-      valid =
-          search (
-            rules, named, few, c2.0, c4.0, c6.0, r3.0, r5.0, r7.0, r8.0, r9.0,
-            within_ok 1 LONGEST_NAME (length d.name) name.0, names, above_ok d.diameters d.upper o3.0 upper,
-            one_of SPECIES d.species r2.0 species, one_of PRICE_KIND d.price_kind r4.0 price_kind,
-            one_of UPPER d.upper r6.0 upper, one_of TRIM d.trim r10 trim,
-            rising_ok d.grades o1.0, rising_ok d.diameters o2.0, rising_ok d.lengths o4,
-            eqb-true (length d.prices) _ c7.0, eqb-true (length d.targets) _ c8.0,
-          );
+      valid = search (rules, rising_ok, above_ok, eqb-true);
     }
 
 lengths_ok : (step : ℕ) (lengths : List ℕ) → none_found (first_off_module step lengths) Module ≡ Ok tt
@@ -132,6 +129,8 @@ unfolding in_range
 module_above_zero s in_ranges counted_all =
     let range = ranged Range MODULE s.«module» _ in_ranges in
     omega (arith, one_of MODULE s.«module» range.0 (module_single s counted_all))
+
+pub ruleset one_module = (module_single, module_above_zero)
 
 -- a file that passed the last five lines
 file_ready : (s : FileDraft) → AreNamed s → within_limits s ≡ Ok tt → IsReadyFile s

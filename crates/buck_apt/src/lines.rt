@@ -1,26 +1,7 @@
 //! The lines of the order of refusals.
 ghost use Rattle.std.specs.Prelude.{◌≡◌, ◌<◌, ◌≤◌, ◌*◌, ◌==◌, length, slice_index, sum, position, nat_lt};
 ghost use Rattle.buck_apt.specs.declared.fault.AptFault.TheVariants.{Module};
-ghost use Rattle.buck_apt.specs.Apt.{
-  groups,
-  begins_with_name,
-  group_present,
-  present,
-  group_single,
-  single,
-  draft_range,
-  in_range,
-  draft_order,
-  in_order,
-  draft_count,
-  in_number,
-  is_number_of,
-  none_found,
-  first_off_module,
-  on_module,
-  in_targets,
-  within_limits,
-};
+ghost use Rattle.buck_apt.specs.Apt.{groups, begins_with_name, group_present, present, group_single, single, draft_range, in_range, draft_order, in_order, draft_count, in_number, is_number_of, none_found, first_off_module, on_module, in_targets, within_limits};
 
 use crate::draft::{Draft, FileDraft};
 use crate::fault::AptFault;
@@ -229,7 +210,7 @@ pub(crate) fn in_targets(file: &FileDraft) -> Result<(), AptFault>
 }
 
 /// What the items say is within the limits.
-#[tactic(auto, using(crate::proofs::PassLemmas::module_single, crate::proofs::PassLemmas::module_above_zero), unfolding(crate::specs::Apt::within_limits))]
+#[tactic(auto, using(crate::proofs::PassLemmas::one_module), unfolding(crate::specs::Apt::within_limits))]
 pub(crate) fn within_limits(file: &FileDraft) -> Result<(), AptFault>
     ensures { result ≡ within_limits file.now }
 {

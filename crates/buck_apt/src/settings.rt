@@ -44,18 +44,11 @@ impl Settings {
         ensures valid { IfSome result IsSettings }
         ensures none { IfNone result (IsSettings (record { period = period; limit = limit }) → ⊥) }
     {
-        if let Some(period) = period {
-            if period < PERIOD.low {
-                return None;
-            }
-            if period > PERIOD.high {
-                return None;
-            }
+        if period.is_some_and(|p| p < PERIOD.low || p > PERIOD.high) {
+            return None;
         }
-        if let Some(limit) = limit {
-            if limit > LIMIT.high {
-                return None;
-            }
+        if limit.is_some_and(|l| l > LIMIT.high) {
+            return None;
         }
         Some(Settings { period, limit })
     }
