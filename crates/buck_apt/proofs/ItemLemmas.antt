@@ -1,9 +1,10 @@
 -- The items of an instruction's text are those that were written.
-use Rattle.std.proofs.Common.{◌≡◌, ℕ, ◌<◌, ◌≤◌, ◌%◌, ◌==◌, false, List, [], ◌∷◌, ◌++◌, All, Ok, length, refl, subst, arith, append_assoc, codes, inl, inr}
+use Rattle.std.proofs.Common.{◌≡◌, ℕ, ◌<◌, ◌≤◌, ◌%◌, ◌==◌, false, List, [], ◌∷◌, ◌++◌, All, Ok, length, refl, subst, sym, arith, append_assoc, codes, inl, inr}
 use Rattle.std.specs.List.{AllByRecursion, flat_map}
 use Rattle.std.specs.Fmt.{decimal}
 unfoldable use Rattle.std.specs.Fmt.{digits}
 use Rattle.std.proofs.lemmas.Bool.{cases_Bool}
+use Rattle.std.proofs.lemmas.List.{append-nil}
 use Rattle.std.proofs.lemmas.Bool.Decides.{nat_tests}
 use Rattle.std.proofs.lemmas.List.Elements.{recursion_from_All, All-from_recursion}
 use Rattle.buck_record.specs.Item.{ItemParts}
@@ -31,15 +32,45 @@ pub row_white : (columns : ℕ) → AreWhite (row_start columns)
 row_white columns k =
     elim (cases_Bool (k % columns == 0)) [ inl start ↦ rw start refl | inr other ↦ rw other refl ]
 
--- the line of an item of numbers, before the items of another text
-numbers_say : (white : ℕ → ℕ) → AreWhite white → (s : Slot) → s.number ≤ 65535 → s.kind ≤ 65535 → (head ns : List ℕ)
-    → head ≡ decimal s.number ++ 32 ∷ decimal s.kind → 0 < length ns → AreSmall ns
-    → (more : List ℕ) (items : List ItemParts) → HasItems more items
-    → HasItems (item_text head (spaced white 0 ns) ++ more) (item_in s (said white ns) ∷ items)
-numbers_say white w s n k head [] is some small more items has = absurd (omega arith)
-numbers_say white w s n k head (m ∷ ms) is some small more items has =
-    rw (spaced_said white w m ms)
-    (line_says s n k (white 0) (w 0) (said white (m ∷ ms)) (numbers_are_said white w m ms small) head more items is has)
+-- a text that is read as these items, whatever is read after it
+record Says (text : List ℕ) (own : List ItemParts) : Type 0 where
+  pub before : (more : List ℕ) (items : List ItemParts) → HasItems more items → HasItems (text ++ more) (own ++ items)
+
+nothing_says : Says [] []
+nothing_says = record { before = λ more items has. has }
+
+-- two texts, one after the other
+infixl 10 ◌⊕◌
+◌⊕◌ : {a b : List ℕ} {xs ys : List ItemParts} → Says a xs → Says b ys → Says (a ++ b) (xs ++ ys)
+◌⊕◌ {a} {b} {xs} {ys} p q = record {
+  before =
+      λ more items has. subst (λ text. HasItems text ((xs ++ ys) ++ items)) (sym (append_assoc a b more))
+      (subst (λ all. HasItems (a ++ (b ++ more)) all) (sym (append_assoc xs ys items))
+      (p.before (b ++ more) (ys ++ items) (q.before more items has)));
+}
+
+-- the bytes that begin an item
+abbrev IsHead : Slot → List ℕ → Type 0
+IsHead s head = (s.number ≤ 65535) × (s.kind ≤ 65535) × (head ≡ decimal s.number ++ 32 ∷ decimal s.kind)
+
+text_says : (s : Slot) (head rest : List ℕ) → IsHead s head → IsSaid rest
+    → Says (item_text head (32 ∷ rest)) (item_in s rest ∷ [])
+text_says s head rest is said =
+    record { before = λ more items has. line_says s is.0 is.1 32 refl rest said head more items is.2 has }
+
+list_says : (white : ℕ → ℕ) → AreWhite white → (s : Slot) (head ns : List ℕ) → IsHead s head → 0 < length ns
+    → AreSmall ns → Says (item_text head (spaced white 0 ns)) (item_in s (said white ns) ∷ [])
+list_says white w s head [] is some small = absurd (omega arith)
+list_says white w s head (m ∷ ms) is some small = record {
+  before =
+      λ more items has. rw (spaced_said white w m ms)
+      (line_says s is.0 is.1 (white 0) (w 0) (said white (m ∷ ms)) (numbers_are_said white w m ms small) head more
+      items is.2 has);
+}
+
+one_says : (s : Slot) (head : List ℕ) (n : ℕ) → IsHead s head → n ≤ 4294967295
+    → Says (list_text head (n ∷ [])) (item_in s (said blank (n ∷ [])) ∷ [])
+one_says s head n is le = list_says blank blank_white s head (n ∷ []) is (omega arith) (le, tt)
 
 -- numbers within a limit are small
 pub small_from : (most : ℕ) → most ≤ 4294967295 → (ns : List ℕ) → All (λ n. n ≤ most) ns → AreSmall ns
@@ -57,65 +88,42 @@ name_said a h =
     let dark = trimmed_is_dark a.name some h.name_trimmed in
     record { starts = dark.0; ends = dark.1; plain = λ k d lt. name_plain _ (h.name_bytes k d lt) }
 
-trim_says : (trim : ℕ) → trim ≤ 200 → (more : List ℕ) (items : List ItemParts) → HasItems more items
-    → HasItems (trim_text trim ++ more) (trim_items trim ++ items)
+trim_says : (trim : ℕ) → trim ≤ 200 → Says (trim_text trim) (trim_items trim)
 unfolding digits
-trim_says trim le more items has =
+trim_says trim le =
     elim (cases_Bool (trim == 0)) [
-      | inl none ↦ rw none has
-      | inr some ↦
-          rw some
-          (numbers_say blank blank_white TRIM (omega arith) (omega arith) (codes "919 1") (trim ∷ []) refl
-          (omega arith) (omega arith, tt) more items has)
+      | inl none ↦ rw none nothing_says
+      | inr some ↦ rw some (one_says TRIM (codes "919 1") trim (omega arith, omega arith, refl) (omega arith))
     ]
 
-regroup : (a b c d e f g h i j more : List ℕ)
-    → a ++ (b ++ (c ++ (d ++ (e ++ (f ++ (g ++ (h ++ (i ++ (j ++ more)))))))))
-    ≡ ((a ++ b ++ c ++ d) ++ (e ++ f ++ g) ++ (h ++ i ++ j)) ++ more
-regroup a b c d e f g h i j more = simp append_assoc
-
--- the text of an assortment, before the items of another text
 pub classes_some : (a : AssortmentParts) → IsAssortment a → 0 < classes_of a
 classes_some a h = let r = h.rows in let c = h.columns in grind arith
 
-module _ (a : AssortmentParts) (h : IsAssortment a) where
-  assortment_says : (more : List ℕ) (items : List ItemParts) → HasItems more items
-      → HasItems (assortment_text a ++ more) (assortment_items a ++ items)
-  unfolding assortment_text wood_text sizes_text tables_text member_items digits
-  assortment_says more items has =
-      let rows : AreWhite (row_start (length a.lengths)) = row_white (length a.lengths) in
-      subst (λ text. HasItems text (assortment_items a ++ items))
-      (regroup (item_text (codes "911 1") (32 ∷ a.name)) (list_text (codes "912 1") (a.species ∷ []))
-      (list_text (codes "913 1") a.grades) (list_text (codes "914 1") (a.price_kind ∷ []))
-      (list_text (codes "915 1") a.diameters) (list_text (codes "915 2") (a.upper ∷ []))
-      (list_text (codes "916 1") a.lengths) (table_text (codes "917 1") (length a.lengths) a.prices)
-      (table_text (codes "918 1") (length a.lengths) a.targets) (trim_text a.trim) more)
-      (line_says NAME (omega arith) (omega arith) 32 refl a.name (name_said a h) (codes "911 1") _ _ refl
-      (numbers_say blank blank_white SPECIES (omega arith) (omega arith) (codes "912 1") (a.species ∷ []) refl
-      (omega arith) (let s = h.species in (omega arith, tt)) _ _
-      (numbers_say blank blank_white GRADES (omega arith) (omega arith) (codes "913 1") a.grades refl
-      (let s = h.grades_number in omega arith) (small_within 1 8 (omega arith) a.grades h.grades_range) _ _
-      (numbers_say blank blank_white PRICE_KIND (omega arith) (omega arith) (codes "914 1") (a.price_kind ∷ [])
-      refl (omega arith) (let s = h.price_kind in (omega arith, tt)) _ _
-      (numbers_say blank blank_white DIAMETERS (omega arith) (omega arith) (codes "915 1") a.diameters refl
-      (let s = h.rows in omega arith) (small_from 1500 (omega arith) a.diameters h.diameters_range) _ _
-      (numbers_say blank blank_white UPPER (omega arith) (omega arith) (codes "915 2") (a.upper ∷ []) refl
-      (omega arith) (let s = h.upper_range in (omega arith, tt)) _ _
-      (numbers_say blank blank_white LENGTHS (omega arith) (omega arith) (codes "916 1") a.lengths refl
-      (let s = h.columns in omega arith) (small_within 500 30000 (omega arith) a.lengths h.lengths_range) _ _
-      (numbers_say (row_start (length a.lengths)) rows PRICES (omega arith) (omega arith) (codes "917 1") a.prices
-      refl (omega (arith, classes_some a h, h.prices_number))
-      (small_from 10000000 (omega arith) a.prices h.prices_range) _ _
-      (numbers_say (row_start (length a.lengths)) rows TARGETS (omega arith) (omega arith) (codes "918 1") a.targets
-      refl (omega (arith, classes_some a h, h.targets_number))
-      (small_from 1000000 (omega arith) a.targets h.targets_range) _ _
-      (trim_says a.trim h.trim_range more items has))))))))))
+assortment_says : (a : AssortmentParts) → IsAssortment a → Says (assortment_text a) (assortment_items a)
+unfolding assortment_text wood_text sizes_text tables_text member_items digits
+assortment_says a h =
+    let rows : AreWhite (row_start (length a.lengths)) = row_white (length a.lengths) in
+    (text_says NAME (codes "911 1") a.name (omega arith, omega arith, refl) (name_said a h)
+    ⊕ one_says SPECIES (codes "912 1") a.species (omega arith, omega arith, refl) (let s = h.species in omega arith)
+    ⊕ list_says blank blank_white GRADES (codes "913 1") a.grades (omega arith, omega arith, refl)
+    (let s = h.grades_number in omega arith) (small_within 1 8 (omega arith) a.grades h.grades_range)
+    ⊕ one_says PRICE_KIND (codes "914 1") a.price_kind (omega arith, omega arith, refl)
+    (let s = h.price_kind in omega arith))
+    ⊕ (list_says blank blank_white DIAMETERS (codes "915 1") a.diameters (omega arith, omega arith, refl)
+    (let s = h.rows in omega arith) (small_from 1500 (omega arith) a.diameters h.diameters_range)
+    ⊕ one_says UPPER (codes "915 2") a.upper (omega arith, omega arith, refl) (let s = h.upper_range in omega arith)
+    ⊕ list_says blank blank_white LENGTHS (codes "916 1") a.lengths (omega arith, omega arith, refl)
+    (let s = h.columns in omega arith) (small_within 500 30000 (omega arith) a.lengths h.lengths_range))
+    ⊕ (list_says (row_start (length a.lengths)) rows PRICES (codes "917 1") a.prices (omega arith, omega arith, refl)
+    (omega (arith, classes_some a h, h.prices_number)) (small_from 10000000 (omega arith) a.prices h.prices_range)
+    ⊕ list_says (row_start (length a.lengths)) rows TARGETS (codes "918 1") a.targets (omega arith, omega arith, refl)
+    (omega (arith, classes_some a h, h.targets_number)) (small_from 1000000 (omega arith) a.targets h.targets_range)
+    ⊕ trim_says a.trim h.trim_range)
 
 assortments_say : (rest : List AssortmentParts) → AllByRecursion IsAssortment rest
-    → HasItems (flat_map assortment_text rest) (flat_map assortment_items rest)
-assortments_say [] h = no_items
-assortments_say (a ∷ rest) h =
-    assortment_says a h.0 (flat_map assortment_text rest) (flat_map assortment_items rest) (assortments_say rest h.1)
+    → Says (flat_map assortment_text rest) (flat_map assortment_items rest)
+assortments_say [] h = nothing_says
+assortments_say (a ∷ rest) h = assortment_says a h.0 ⊕ assortments_say rest h.1
 
 apt_plain : IsSaid (codes "APT")
 apt_plain = record {
@@ -124,35 +132,20 @@ apt_plain = record {
   plain = All-from_recursion IsPlain (codes "APT") (refl, (refl, (refl, tt)));
 }
 
-regroup_head : (a b c d e more : List ℕ)
-    → a ++ (b ++ (c ++ (d ++ (e ++ more)))) ≡ a ++ b ++ c ++ d ++ e ++ more
-regroup_head a b c d e more = simp append_assoc
-
-has_items : (i : InstructionParts) → IsInstruction i → HasItems (text_of i) (items_in i)
+all_say : (i : InstructionParts) → IsInstruction i → Says (text_of i) (items_in i)
 unfolding text_of head_items digits
-has_items i h =
-    let last : List ℕ = flat_map assortment_text i.assortments in
-    let count : List ℕ = list_text (codes "910 1") (length i.assortments ∷ []) ++ last in
-    let limit : List ℕ = list_text (codes "903 1") (i.limit ∷ []) ++ count in
-    let period : List ℕ = list_text (codes "902 1") (i.period ∷ []) ++ limit in
-    let step : List ℕ = list_text (codes "901 1") (i.«module» ∷ []) ++ period in
-    subst (λ text. HasItems text (items_in i))
-    (regroup_head (item_text (codes "1 2") (32 ∷ codes "APT")) (list_text (codes "901 1") (i.«module» ∷ []))
-    (list_text (codes "902 1") (i.period ∷ [])) (list_text (codes "903 1") (i.limit ∷ []))
-    (list_text (codes "910 1") (length i.assortments ∷ [])) last)
-    (line_says file_slot (omega arith) (omega arith) 32 refl (codes "APT") apt_plain (codes "1 2") step _ refl
-    (numbers_say blank blank_white MODULE (omega arith) (omega arith) (codes "901 1") (i.«module» ∷ []) refl
-    (omega arith) (let s = h.module_range in (omega arith, tt)) period _
-    (numbers_say blank blank_white PERIOD (omega arith) (omega arith) (codes "902 1") (i.period ∷ []) refl
-    (omega arith) (let s = h.period_range in (omega arith, tt)) limit _
-    (numbers_say blank blank_white LIMIT (omega arith) (omega arith) (codes "903 1") (i.limit ∷ []) refl
-    (omega arith) (let s = h.limit_range in (omega arith, tt)) count _
-    (numbers_say blank blank_white COUNT (omega arith) (omega arith) (codes "910 1") (length i.assortments ∷ [])
-    refl (omega arith) (let s = h.assortments_number in (omega arith, tt)) last _
-    (assortments_say i.assortments (recursion_from_All IsAssortment i.assortments h.assortments_valid)))))))
+all_say i h =
+    text_says file_slot (codes "1 2") (codes "APT") (omega arith, omega arith, refl) apt_plain
+    ⊕ one_says MODULE (codes "901 1") i.«module» (omega arith, omega arith, refl) (let s = h.module_range in omega arith)
+    ⊕ one_says PERIOD (codes "902 1") i.period (omega arith, omega arith, refl) (let s = h.period_range in omega arith)
+    ⊕ one_says LIMIT (codes "903 1") i.limit (omega arith, omega arith, refl) (let s = h.limit_range in omega arith)
+    ⊕ one_says COUNT (codes "910 1") (length i.assortments) (omega arith, omega arith, refl)
+    (let s = h.assortments_number in omega arith)
+    ⊕ assortments_say i.assortments (recursion_from_All IsAssortment i.assortments h.assortments_valid)
 
 -- the items of the text are those that were written
-pub items_again : (i : InstructionParts) → IsInstruction i
-    → items_of (text_of i) ≡ Ok (items_in i)
+pub items_again : (i : InstructionParts) → IsInstruction i → items_of (text_of i) ≡ Ok (items_in i)
 unfolding items_of
-items_again i h = has_items i h 1
+items_again i h =
+    subst (λ text. HasItems text (items_in i)) (append-nil (text_of i))
+    (subst (λ all. HasItems (text_of i ++ []) all) (append-nil (items_in i)) ((all_say i h).before [] [] no_items)) 1

@@ -1,5 +1,5 @@
 -- What the lines of refusals that passed say: the numbers are within the limits.
-use Rattle.std.proofs.Common.{rules, ◌≡◌, ℕ, ◌*◌, ◌<◌, ◌≤◌, Bool, true, false, List, [], ◌∷◌, ◌==◌, Ok, Option, Some, None, length, sum, slice_index, refl, arith, eqb-true, All, zero, suc, add-one, nat_lt}
+use Rattle.std.proofs.Common.{map, rules, ◌≡◌, ℕ, ◌*◌, ◌<◌, ◌≤◌, Bool, true, false, List, [], ◌∷◌, ◌==◌, Ok, Option, Some, None, length, sum, slice_index, refl, arith, eqb-true, All, zero, suc, add-one, nat_lt}
 use Rattle.std.proofs.Common.{◌%◌}
 use Rattle.std.specs.Prelude.{position}
 use Rattle.std.specs.List.{AllByRecursion, list_all}
@@ -107,13 +107,7 @@ draft_ready d named in_ranges ordered counted_all few =
     let price_kind_range = one_of PRICE_KIND d.price_kind r4.0 price_kind in
     let upper_range = one_of UPPER d.upper r6.0 upper in
     let trim_range = one_of TRIM d.trim r10 trim in
-    record {
-      species = species;
-      price_kind = price_kind;
-      upper = upper;
-      trim = trim;
-      valid = search (rules, rising_ok, above_ok, eqb-true);
-    }
+    search (rules, rising_ok, above_ok, eqb-true)
 
 lengths_ok : (step : ℕ) (lengths : List ℕ) → none_found (first_off_module step lengths) Module ≡ Ok tt
     → All (λ l. l % step ≡ 0) lengths
@@ -164,22 +158,15 @@ file_ready s named passes =
     let ready : All IsReadyDraft s.drafts =
     λ k d lt. draft_ready _ (names k d lt) (ranges k d lt) (orders k d lt) (counts k d lt)
     (ltb-false _ _ (few k d lt)) in
-    record {
-      «module» = step;
-      period = period;
-      limit = limit;
-      drafts = ready;
-      valid = record {
-        module_range = one_of MODULE s.«module» r1.0 step;
-        period_range = one_of PERIOD s.period r2.0 period;
-        limit_range = (one_of LIMIT s.limit r3.0 limit).1;
-        assortments_number = rw length-map (rw same at range);
-        assortments_valid = All-map IsAssortment assortment_of s.drafts (λ k d lt. (ready k d lt).valid);
-        on_module =
-            All-map (λ a. IsOnModule (slice_index s.«module» 0) a) assortment_of s.drafts
-            (λ k d lt. lengths_ok (slice_index s.«module» 0) _ (each_ok _ s.drafts stepped.0 k d lt));
-      };
-    }
+    let module_range = one_of MODULE s.«module» r1.0 step in
+    let period_range = one_of PERIOD s.period r2.0 period in
+    let limit_range = one_of LIMIT s.limit r3.0 limit in
+    let assortments_number : IsWithin 1 16 (length (map assortment_of s.drafts)) = rw length-map (rw same at range) in
+    let valid = All-map IsAssortment assortment_of s.drafts (λ k d lt. (ready k d lt).valid) in
+    let on_step =
+    All-map (λ a. IsOnModule (slice_index s.«module» 0) a) assortment_of s.drafts
+    (λ k d lt. lengths_ok (slice_index s.«module» 0) _ (each_ok _ s.drafts stepped.0 k d lt)) in
+    search rules
 
 -- the file of the items of some bytes
 pub items_ready : (s : FileDraft) (bytes : List ℕ) (items : List ItemParts)
