@@ -8,11 +8,14 @@ use Rattle.std.proofs.lemmas.Option.{slice_get-get_or}
 use Rattle.buck_record.proofs.PassLemmas.{all_within_ok}
 use Rattle.buck_apt.specs.Instruction.{AssortmentParts, InstructionParts, IsAssortment, IsInstruction, IsOnModule, classes, classes_of}
 use Rattle.buck_apt.specs.Changed.{each_with, with_assortments}
-use Rattle.buck_apt.specs.Grades.{all_grades, taking_all}
+use Rattle.buck_apt.specs.Grades.{all_grades, grade_free, taking_all}
 use Rattle.buck_apt.specs.declared.assortment.Change.{Change}
 use Rattle.buck_apt.specs.declared.assortment.Change.TheVariants.{Nothing, Grades, Prices, Targets}
-use Rattle.buck_apt.specs.inner.Change.{MayChange, changed, with_change}
+use Rattle.buck_apt.specs.inner.Change.{MayChange, changed}
 use Rattle.buck_apt.proofs.PassLemmas.{rising_ok}
+
+abbrev IsValid : ℕ → AssortmentParts → Type 0
+IsValid step a = IsAssortment a × IsOnModule step a
 
 -- the numbers of the assortment at a place
 abbrev part : List AssortmentParts → List ℕ → ℕ → AssortmentParts → List ℕ
@@ -49,25 +52,21 @@ module _ (i : InstructionParts) (ns : List ℕ) (h : IsInstruction i) (k : ℕ) 
   part_all P all = All-take P (classes_of (get_or i.assortments k d)) _ (All-drop P _ ns all)
 
   one_valid : (change : Change) → MayChange change i ns
-      → IsAssortment (changed change (part i.assortments ns k (get_or i.assortments k d)) (get_or i.assortments k d))
-  one_valid Nothing may = h.assortments_valid k d lt
+      → IsValid i.«module» (changed change (part i.assortments ns k (get_or i.assortments k d)) (get_or i.assortments k d))
+  one_valid Nothing may = (h.assortments_valid k d lt, h.on_module k d lt)
   one_valid Grades may =
       let range = all_within_ok 1 8 all_grades refl in
       let rise = rising_ok all_grades refl in
-      search (rules, h.assortments_valid k d lt, range, rise)
+      search (rules, h.assortments_valid k d lt, h.on_module k d lt, range, rise)
   one_valid Prices may =
-      search (rules, h.assortments_valid k d lt, part_long may.one_each, part_all (λ p. p ≤ 10000000) may.low)
+      let long = part_long may.one_each in
+      let low = part_all (λ p. p ≤ 10000000) may.low in
+      search (rules, h.assortments_valid k d lt, h.on_module k d lt, long, low)
   one_valid Targets may =
+      let long = part_long may.one_each in
+      let low = part_all (λ t. t ≤ 1000000) may.low in
       let sum = may.low_sums k lt (get_or i.assortments k d) (slice_get-get_or i.assortments k d lt) in
-      search (rules, h.assortments_valid k d lt, part_long may.one_each, part_all (λ t. t ≤ 1000000) may.low, sum)
-
-  one_on_module : (change : Change)
-      → IsOnModule i.«module»
-      (changed change (part i.assortments ns k (get_or i.assortments k d)) (get_or i.assortments k d))
-  one_on_module Nothing = h.on_module k d lt
-  one_on_module Grades = h.on_module k d lt
-  one_on_module Prices = h.on_module k d lt
-  one_on_module Targets = h.on_module k d lt
+      search (rules, h.assortments_valid k d lt, h.on_module k d lt, long, low, sum)
 
 pub changed_valid : (change : Change) (i : InstructionParts) (ns : List ℕ) → IsInstruction i → MayChange change i ns
     → IsInstruction (with_assortments i (each_with (changed change) ns i.assortments))
@@ -80,10 +79,10 @@ changed_valid change i ns h may =
       assortments_number = rw number h.assortments_number;
       assortments_valid =
           λ k d lt. rw (each_at (changed change) i.assortments ns k d (omega arith))
-          (one_valid i ns h k d (omega arith) change may);
+          (one_valid i ns h k d (omega arith) change may).0;
       on_module =
           λ k d lt. rw (each_at (changed change) i.assortments ns k d (omega arith))
-          (one_on_module i ns h k d (omega arith) change);
+          (one_valid i ns h k d (omega arith) change may).1;
     }
 
 pub each_valid : (change : Change) (i : InstructionParts) (ns : List ℕ) → IsInstruction i → MayChange change i ns
@@ -96,12 +95,12 @@ by_itself : (f : AssortmentParts → AssortmentParts) (ns : List ℕ) (xs : List
 by_itself f ns [] = refl
 by_itself f ns (a ∷ xs) = ap (λ ys. f a ∷ ys) (by_itself f (drop (classes_of a) ns) xs)
 
-pub changed_is : (change : Change) (i : InstructionParts) (ns : List ℕ)
-    → with_assortments i (each_with (changed change) ns i.assortments) ≡ with_change change ns i
-changed_is Nothing i ns =
-    ap (λ xs. with_assortments i xs) (by_itself (λ a. a) ns i.assortments ∙ map-id i.assortments)
-changed_is Grades i ns = ap (λ xs. with_assortments i xs) (by_itself taking_all ns i.assortments)
-changed_is Prices i ns = refl
-changed_is Targets i ns = refl
+pub copied : (i : InstructionParts) (ns : List ℕ)
+    → with_assortments i (each_with (changed Nothing) ns i.assortments) ≡ i
+copied i ns = ap (λ xs. with_assortments i xs) (by_itself (λ a. a) ns i.assortments ∙ map-id i.assortments)
 
-pub ruleset changes = (changed_valid, each_valid, changed_is)
+pub freed : (i : InstructionParts) (ns : List ℕ)
+    → with_assortments i (each_with (changed Grades) ns i.assortments) ≡ grade_free i
+freed i ns = ap (λ xs. with_assortments i xs) (by_itself taking_all ns i.assortments)
+
+pub ruleset changes = (changed_valid, each_valid)

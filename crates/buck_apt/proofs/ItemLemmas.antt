@@ -17,7 +17,7 @@ use Rattle.buck_apt.specs.declared.slots.TheConstants.{MODULE, PERIOD, LIMIT, CO
 use Rattle.buck_apt.specs.Instruction.{AssortmentParts, InstructionParts, IsAssortment, IsInstruction, IsNameByte, IsWithin, classes_of}
 use Rattle.buck_record.specs.writing.Written.{spaced, blank, row_start}
 use Rattle.buck_record.specs.writing.Line.{item_text}
-use Rattle.buck_apt.specs.Text.{list_text, table_text, trim_text}
+use Rattle.buck_apt.specs.Text.{list_text, trim_text}
 unfoldable use Rattle.buck_apt.specs.Text.{wood_text, sizes_text, tables_text, assortment_text, text_of}
 use Rattle.buck_apt.proofs.Items.{trim_items, assortment_items, items_in}
 unfoldable use Rattle.buck_apt.proofs.Items.{member_items, head_items}

@@ -4,7 +4,7 @@ ghost use Rattle.buck_apt.specs.Faults.{apt_numbers};
 ghost use Rattle.buck_apt.specs.declared.fault.AptFault.TheVariants.{Memory, Head, Missing, Twice, Digits, Range, Order, Count};
 
 use buck_record::{FaultNumbers, FormFault, Numbered, Slot};
-use std::alloc::{AllocError, AllocFailed};
+use std::alloc::AllocError;
 use thiserror::Error;
 
 /// Why an instruction file is refused: the first refusal that applies, in this order, and within it the first item in
@@ -77,14 +77,6 @@ impl From<AllocError> for AptFault {
     ghost from_gives = { λ _ e. e ≡ Memory };
 
     fn from(_e: AllocError) -> AptFault {
-        AptFault::Memory
-    }
-}
-
-impl<T: Drop> From<AllocFailed<T>> for AptFault {
-    ghost from_gives = { λ _ e. e ≡ Memory };
-
-    fn from(_e: AllocFailed<T>) -> AptFault {
         AptFault::Memory
     }
 }
