@@ -32,17 +32,14 @@ half [] = omega arith
 half (s ∷ []) = omega arith
 half (s ∷ g ∷ more) = omega (arith, half more)
 
-started : (high : ℕ) (ns : List ℕ) → all_within 0 high (starts ns) ≡ true
-    → AllByRecursion (λ (z : ℕ × ℕ). z.0 ≤ high) (zones_of ns)
-started high [] h = tt
-started high (s ∷ []) h = tt
-started high (s ∷ g ∷ more) h = let p = first_within 0 high s (starts more) h in (p.0.1, started high more p.1)
-
-graded : (ns : List ℕ) → all_within GRADES.low GRADES.high (grades ns) ≡ true
-    → AllByRecursion (λ (z : ℕ × ℕ). IsGrade z.1) (zones_of ns)
-graded [] h = tt
-graded (s ∷ []) h = tt
-graded (s ∷ g ∷ more) h = let p = first_within GRADES.low GRADES.high g (grades more) h in (p.0, graded more p.1)
+zoned : (ns : List ℕ) → all_within STARTS.low STARTS.high (starts ns) ≡ true
+    → all_within GRADES.low GRADES.high (grades ns) ≡ true
+    → AllByRecursion (λ (z : ℕ × ℕ). (z.0 ≤ STARTS.high) × IsGrade z.1) (zones_of ns)
+zoned [] s g = tt
+zoned (n ∷ []) s g = tt
+zoned (n ∷ m ∷ more) s g =
+    let p = first_within STARTS.low STARTS.high n (starts more) s in
+    let q = first_within GRADES.low GRADES.high m (grades more) g in ((p.0.1, q.0), zoned more p.1 q.1)
 
 risen : (low : ℕ) (ns : List ℕ) → ((n : ℕ) (more : List ℕ) → starts ns ≡ n ∷ more → low ≤ n)
     → is_rising (starts ns) ≡ true → IsRisingFrom low (zones_of ns)
@@ -69,6 +66,7 @@ numbers_are d ready =
     let one_kind = counted Count SPECIES 1 d.species _ one.1 in
     let some = counted Count SAMPLES MOST_SAMPLES d.samples _ one_kind.1 in
     let few = both (length d.zones % 2 == 0) (nat_le (length d.zones) (2 * MOST_ZONES)) (check_ok _ _ some.1) in
+    let zones = All-from_recursion _ (zones_of d.zones) (zoned d.zones starts_in.0 grades_in) in
     record {
       number = one.0.0;
       species = one_kind.0.0;
@@ -78,9 +76,9 @@ numbers_are d ready =
         samples_number = some.0;
         samples_range = λ k x lt. (samples.0 k x lt).1;
         zones_number = omega (arith, half d.zones, leb-true _ _ few.1);
-        starts_range = All-from_recursion _ (zones_of d.zones) (started STARTS.high d.zones starts_in.0);
+        starts_range = λ k z lt. (zones k z lt).0;
         starts_rise = risen 0 d.zones (λ n more e. omega arith) (check_ok _ _ ready.order);
-        grades_range = All-from_recursion _ (zones_of d.zones) (graded d.zones grades_in);
+        grades_range = λ k z lt. (zones k z lt).1;
       };
     }
 

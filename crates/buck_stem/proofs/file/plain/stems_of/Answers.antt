@@ -1,9 +1,11 @@
 use Rattle.std.proofs.Common.{[], ◌∷◌, refl}
-use Rattle.buck_stem.proofs.PlainLemmas.{stems_start, stems_go_on, stems_end}
+use Rattle.std.proofs.lemmas.List.{append-nil}
+use Rattle.buck_stem.specs.inner.Plain.{all_items}
+use Rattle.buck_stem.proofs.PlainLemmas.{stems_go_on}
 use Rattle.buck_stem.proofs.file.plain.stems_of.Goals as goal
 
 pub loop-init : goal.loop-init
-loop-init c = rw c.new-stems.ensures.items (stems_start c.args.body.now)
+loop-init c = rw c.new-stems.ensures.items ([], refl, λ items h. h)
 
 pub loop-preserved : goal.loop-preserved
 loop-preserved c =
@@ -13,5 +15,6 @@ loop-preserved c =
 
 pub returns-in-Err : goal.returns-in-Err
 returns-in-Err c =
-    stems_end c.args.body.now c.loop.rest.now c.loop.stems.items c.loop.invariant
-    (c.past_others.ensures [] ([], c.is_done.ensures c.if-is_done.true, refl))
+    let so_far = c.loop.invariant in
+    let end = c.past_others.ensures [] ([], c.is_done.ensures c.if-is_done.true, refl) in
+    (so_far.0, so_far.1, rw (append-nil (all_items so_far.0)) at (so_far.2 [] end))
