@@ -1,64 +1,89 @@
 //! The diameters of a stem at the multiples of a module.
-ghost use Rattle.std.specs.Prelude.{◌≡◌, ◌<◌, ◌≤◌, ◌+◌, ◌-◌, ◌*◌, ℕ, List, All, length, OnOk};
-ghost use Rattle.std.specs.Vec.{vec_capacity};
-ghost use Rattle.buck_stem.specs.Stem.{IsStem, diameter_at};
+ghost use Rattle.std.specs.Prelude.{◌≡◌, ◌<◌, ◌≤◌, ◌+◌, ◌/◌, ℕ, List, length, IfOk, OnOk, slice_index};
+ghost use Rattle.buck_stem.specs.Stem.{IsStem, stem_length, least_to};
 ghost use Rattle.buck_stem.specs.points.Profile.{profile_of, points_of};
-ghost use Rattle.buck_stem.specs.inner.Diameters.{AreLows, AreDiametersBy};
+ghost use Rattle.buck_stem.specs.inner.Diameters.{AreDiametersBy, AreDiametersTo};
 
 use crate::stem::Stem;
 use std::alloc::AllocError;
 
-/// Puts the least so far at each sample in the place of others.
+/// Puts the least so far of each sample at its place.
 #[tactic(auto, using(crate::proofs::Diameters::least_first))]
-fn put_lows(lows: &mut Vec<u32>, samples: &[u16]) -> Result<(), AllocError>
-    requires { 0 < length samples.now }
-    ensures number { OnOk result (length lows.new.items ≡ length samples.now) }
-    ensures small { OnOk result (All (λ d. d ≤ 65535) lows.new.items) }
-    ensures right { OnOk result (AreLows samples.now lows.new.items) }
+fn put_lows(samples: &[u16], places: &mut [u32])
+    requires some { 0 < length samples.now }
+    requires number { length places.old ≡ length samples.now }
+    ensures number { length places.new ≡ length samples.now }
+    ensures lows { (k : ℕ) → k < length samples.now → slice_index places.new k ≡ least_to samples.now k }
 {
-    lows.clear();
-    lows.reserve(samples.len())?;
-    let mut low = samples[0];
-    lows.push_reserved(u32::from(low));
+    let mut low = u32::from(samples[0]);
+    places[0] = low;
     for i in 0..samples.len() - 1 {
-        low = low.min(samples[i + 1]);
-        lows.push_reserved(u32::from(low));
+        low = low.min(u32::from(samples[i + 1]));
+        places[i + 1] = low;
+    }
+}
+
+/// Puts the diameters at the samples into a list, in the place of what it holds.
+fn put_at_samples(samples: &[u16], out: &mut Vec<u32>) -> Result<(), AllocError>
+    requires { 0 < length samples.now }
+    ensures number { OnOk result (length out.new.items ≡ length samples.now) }
+    ensures right { OnOk result (AreDiametersBy samples.now 100 out.new.items) }
+{
+    out.resize(samples.len(), 0)?;
+    put_lows(samples, out.as_mut_slice());
+    Ok(())
+}
+
+/// Puts the diameters at each step from `part` mm past a sample on and before the next sample behind the others. The
+/// answer is how far past the next sample the step after them is, in mm.
+fn push_between(
+    low: u32,
+    next: u32,
+    part: u32,
+    step: u32,
+    out: &mut Vec<u32>,
+) -> Result<u32, AllocError>
+    requires low { (low ≤ 65535) × (next ≤ 65535) }
+    requires step { (10 ≤ step) × (step ≤ 1000) }
+    requires part { part < step }
+    ensures part { IfOk result (λ r. r < step) }
+    ensures right { IfOk result (λ r. (samples : List ℕ) (i : ℕ) → low ≡ least_to samples i
+        → next ≡ least_to samples (i + 1)
+        → AreDiametersTo samples step i part out.old.items → AreDiametersTo samples step (i + 1) r out.new.items) }
+{
+    let mut past = part;
+    while past < 100 {
+        out.push((low * (100 - past) + next * past) / 100)?;
+        past += step;
+    }
+    Ok(past - 100)
+}
+
+/// Puts the diameters at each step along the samples into an empty list.
+fn push_along(samples: &[u16], step: u32, out: &mut Vec<u32>) -> Result<(), AllocError>
+    requires some { 0 < length samples.now }
+    requires step { (10 ≤ step) × (step ≤ 1000) }
+    requires none { length out.old.items ≡ 0 }
+    ensures { OnOk result ((length out.new.items ≡ stem_length samples.now / step + 1)
+        × AreDiametersBy samples.now step out.new.items) }
+{
+    let last = samples.len() - 1;
+    let mut low = u32::from(samples[0]);
+    let mut part = 0;
+    for i in 0..last {
+        let next = low.min(u32::from(samples[i + 1]));
+        part = push_between(low, next, part, step, out)?;
+        low = next;
+    }
+    if part == 0 {
+        out.push(low)?;
     }
     Ok(())
 }
 
-/// The diameter at `x` mm from the butt, by the least so far at each sample.
-fn diameter_in(lows: &[u32], x: u32) -> u32
-    requires within { (0 < length lows.now) × (x ≤ 100 * (length lows.now - 1)) }
-    requires small { All (λ d. d ≤ 65535) lows.now }
-    ensures { (samples : List ℕ) → AreLows samples lows.now → result ≡ diameter_at samples x }
-{
-    let i = (x / 100) as usize;
-    let part = x % 100;
-    if part == 0 {
-        return lows[i];
-    }
-    (lows[i] * (100 - part) + lows[i + 1] * part) / 100
-}
-
-/// Puts the diameters at so many points into an empty list with room for them.
-fn put_points(diameters: &mut Vec<u32>, lows: &[u32], step: u32, count: usize)
-    requires lows { (0 < length lows.now) × All (λ d. d ≤ 65535) lows.now }
-    requires step { step ≤ 1000 }
-    requires count { (0 < count) × (count ≤ 4001) × ((count - 1) * step ≤ 100 * (length lows.now - 1)) }
-    requires room { (length diameters.old.items ≡ 0) × (count ≤ vec_capacity diameters.old) }
-    ensures number { length diameters.new.items ≡ count }
-    ensures right { (samples : List ℕ) → AreLows samples lows.now → AreDiametersBy samples step diameters.new.items }
-{
-    for k in 0..count {
-        diameters.push_reserved(diameter_in(lows, k as u32 * step));
-    }
-}
-
-/// Puts the diameter at each point in the place of others. `lows` is a list to work in.
+/// Puts the diameter at each point in the place of others.
 pub(crate) fn put_diameters(
     diameters: &mut Vec<u32>,
-    lows: &mut Vec<u32>,
     stem: &Stem,
     step: u32,
 ) -> Result<(), AllocError>
@@ -67,13 +92,11 @@ pub(crate) fn put_diameters(
     ensures right { OnOk result (AreDiametersBy stem.now.samples step diameters.new.items) }
     ensures valid { IsStem stem.now }
 {
-    let count = (stem.length() / step) as usize + 1;
-    if step == 100 {
-        return put_lows(diameters, stem.samples());
-    }
-    put_lows(lows, stem.samples())?;
+    let points = stem.length() / step + 1;
     diameters.clear();
-    diameters.reserve(count)?;
-    put_points(diameters, lows.as_slice(), step, count);
-    Ok(())
+    diameters.reserve(points as usize)?;
+    if step == 100 {
+        return put_at_samples(stem.samples(), diameters);
+    }
+    push_along(stem.samples(), step, diameters)
 }

@@ -42,8 +42,6 @@ enum Tables<'a> {
 /// The lists of a profile, to be kept from stem to stem. What they hold of the stem before is of no account.
 #[derive(Drop)]
 pub struct ProfileLists {
-    /// The least diameter up to each sample, if the diameters are made of it.
-    lows: Vec<u32>,
     diameters: Vec<u32>,
     steps: Vec<Step>,
 }
@@ -52,7 +50,6 @@ impl ProfileLists {
     /// Empty lists. It takes no memory.
     pub fn new(alloc: Global) -> ProfileLists {
         ProfileLists {
-            lows: Vec::new(alloc),
             diameters: Vec::new(alloc),
             steps: Vec::new(alloc),
         }
@@ -64,7 +61,7 @@ fn put_tables(lists: &mut ProfileLists, stem: &Stem, step: u32) -> Result<(), Al
     requires { (10 ≤ step) × (step ≤ 1000) }
     ensures { OnOk result (AreTables (profile_of stem.now step) lists.new) }
 {
-    put_diameters(&mut lists.diameters, &mut lists.lows, stem, step)?;
+    put_diameters(&mut lists.diameters, stem, step)?;
     put_steps(&mut lists.steps, stem, step)
 }
 

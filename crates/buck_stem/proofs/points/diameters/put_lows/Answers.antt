@@ -1,4 +1,4 @@
-use Rattle.std.proofs.Common.{◌≡◌, ◌+◌, get_or, refl, arith, rules}
+use Rattle.std.proofs.Common.{◌≡◌, ◌+◌, arith}
 use Rattle.std.proofs.lemmas.Grind.{common_steps, elements}
 use Rattle.buck_stem.specs.Stem.{least_to}
 use Rattle.buck_stem.proofs.Diameters.{least_next}
@@ -7,10 +7,4 @@ use Rattle.buck_stem.proofs.points.diameters.put_lows.Goals as goal
 pub loop-i-preserved : goal.loop-i-preserved
 loop-i-preserved c =
     let low : c.min-low.result ≡ least_to c.args.samples.now (c.loop-i.i + 1) = grind (arith, least_next) in
-    record {
-      room = search rules;
-      number = grind (arith, common_steps);
-      small = grind (arith, elements);
-      low = low;
-      right = grind (arith, elements, low);
-    }
+    record { number = grind (arith, common_steps); low = low; each = grind (arith, elements, low) }
