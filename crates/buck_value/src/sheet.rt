@@ -1,6 +1,5 @@
 //! Price sheets.
-ghost use Rattle.std.specs.Prelude.{◌≡◌, ℕ, ◌+◌, ◌<◌, ◌≤◌, ◌↔◌, IsTrue, IfOk, IfErr, IfSome, IfNone, OnOk, length, All, EachIndex};
-ghost use Rattle.std.specs.List.{flat_map};
+ghost use Rattle.std.specs.Prelude.{◌≡◌, ◌≤◌, ◌↔◌, IsTrue, IfOk, IfErr, IfSome, IfNone, OnOk, length, EachIndex};
 ghost use Rattle.buck_apt.specs.Instruction.{IsInstruction, IsClass, classes};
 ghost use Rattle.buck_value.specs.Sheet.{IsSheet, IsInSpan, IsPriceAt, IsSheetFault, base_prices, sheet_of, price_of};
 

@@ -5,12 +5,12 @@
 //! grade along its length is one of the assortment's, its top diameter is at or above the first lower limit and below
 //! the upper diameter, and the base price of its class isn't 0. Its row is the last whose lower limit is at most its
 //! top diameter, its column the place of its length.
-ghost use Rattle.std.specs.Prelude.{◌≡◌, ◌+◌, ◌*◌, ◌<◌, ◌≤◌, ◌%◌, ◌==◌, Some, IfSome, IfNone, slice_get, length, position};
+ghost use Rattle.std.specs.Prelude.{◌≡◌, ◌*◌, ◌<◌, ◌≤◌, ◌%◌, ◌==◌, Some, IfSome, IfNone, slice_get, length, position};
 ghost use Rattle.buck_apt.specs.Instruction.{IsAssortment, IsClass, IsOnModule};
 ghost use Rattle.buck_stem.specs.Stem.{IsStem, stem_length, diameter_at};
 ghost use Rattle.buck_stem.specs.points.Profile.{IsMask, profile_of};
 ghost use Rattle.buck_value.specs.Sheet.{IsSheet, price_of};
-ghost use Rattle.buck_value.specs.Allowed.{IsAllowed, Allows, IsBought, log_of, top_of, top_diameter, row_at, class_in, class_of, kind_in, worth_of};
+ghost use Rattle.buck_value.specs.Allowed.{IsAllowed, Allows, IsBought, log_of, top_diameter, row_at, class_in, class_of, kind_in, worth_of};
 ghost use Rattle.buck_value.specs.Volume.{volume, worth_at};
 ghost use Rattle.buck_value.specs.declared.sheet.TheConstants.{HIGHEST_PRICE};
 
@@ -180,12 +180,8 @@ pub(crate) fn measure(
     ensures stem { IfSome result (λ _. IsStem stem.now) }
 {
     let instruction = sheet.instruction();
-    let all = instruction.assortments();
-    let place = log.assortment as usize;
-    if place >= all.len() {
-        return None;
-    }
-    measure_in(instruction.module(), &all[place], stem, tables, log)
+    let assortment = instruction.assortments().get(log.assortment as usize)?;
+    measure_in(instruction.module(), assortment, stem, tables, log)
 }
 
 /// The class of the log that starts `start` mm from the butt, is `length` mm long and of the assortment at this place,

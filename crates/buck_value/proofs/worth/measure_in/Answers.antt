@@ -25,7 +25,7 @@ returns-clause-allowed c =
       on_module = c.if-log-step-ne0.false;
       length_offered = (column_some a.lengths l column at).1;
       within = omega arith;
-      grades = (mask_allows c.args.stem.now _ _ _ a.grades c.length.ensures.valid c.wood_between-grades.ensures.grades).0
+      grades = (mask_allows c.args.stem.now _ _ _ _ c.length.ensures.valid c.wood_between-grades.ensures.grades).0
           taken.1;
       bought = rw (column_is a l column at, ← c.wood_between-grades.ensures.top) c.in_ok-row.ensures.bought;
     }
