@@ -14,6 +14,7 @@ use Rattle.buck_stem.specs.Stem.{StemParts, HasGradesOf}
 use Rattle.buck_value.specs.declared.log.Log.{Log}
 use Rattle.buck_value.specs.Sheet.{SheetParts, price_of}
 use Rattle.buck_value.specs.Volume.{volume, worth_at}
+use Rattle.buck_value.proofs.Prices.{price-le}
 use Rattle.buck_value.proofs.Rows.{row_within}
 use Rattle.buck_value.proofs.Stands.{stands}
 use Rattle.buck_value.specs.Allowed.{IsAllowed, worth_of, kind_in, class_in, class_of, top_diameter, column_of, top_of}
@@ -119,5 +120,7 @@ unfolding worth_of
 worth_by_class s stem g class top is_class is_top =
     rw (is_class, is_top, class_assortment (slice_get s.instruction.assortments g.assortment) stem g) refl
 
--- what the worth of an allowed log goes by
+-- what the worth of a class goes by, and that of an allowed log
+pub ruleset pricing = (price-le, stands, slice_get_within)
+
 pub ruleset valuing = (stands, slice_get_within, class_is_class, allowed_low, worth_by_class)

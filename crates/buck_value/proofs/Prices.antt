@@ -59,8 +59,6 @@ prices_low s v = λ k d lt.
 pub price-le : (s : SheetParts) (k : ℕ) → IsSheet s → slice_index s.prices k ≤ 20000000
 price-le s k v = low_at s.prices k 20000000 (prices_low s v)
 
-pub ruleset low_prices = (price-le)
-
 -- base prices lie within their own spans
 pub base_in_span : (i : InstructionParts) (k : ℕ) → IsPriceAt i (base_prices i) k
 base_in_span i k = (omega arith, omega arith)

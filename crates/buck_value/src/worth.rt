@@ -213,7 +213,7 @@ pub fn class_of(
 }
 
 /// What a log of a class, a top diameter and a length in mm is worth.
-#[tactic(auto, using(crate::proofs::Prices::low_prices))]
+#[tactic(auto, using(crate::proofs::Classes::pricing))]
 pub(crate) fn worth_in_class(sheet: &Sheet, class: Class, top: u32, length: u32) -> u64
     requires class { IsClass sheet.now.instruction class }
     requires top { top ≤ 2000 }
