@@ -1,7 +1,7 @@
 -- The search goes on by logs that are offered.
 use Rattle.buck_dp.proofs.Words.{◌≡◌, ℕ, ◌+◌, ◌-◌, ◌*◌, ◌<◌, ◌≤◌, ◌⊎◌, inl, inr, List, length, worth_low, mul-le-mul_right, slice_get, Some, sym, ◌∙◌, arith, rules, cases_lt, cases_order, cases_eq, slice_get_within, GroundParts, ends_of}
 use Rattle.buck_dp.proofs.Words.{IsSheet, Cell, BidParts, none, IsAtMost, plus, IsLogAt, bid_at, IsNear, HasNoneOf, Reaches, IsSearch, CanOffer, IsOffered, AreOffered, IsStem, ◌++◌, get_or-append_right, get_or-append-add}
-use Rattle.buck_dp.proofs.Words.{get_or_append_left, length-append, same_Some}
+use Rattle.buck_dp.proofs.Words.{get_or_append_left, length-append, same_Some, AllFit, AreChosen, stem_length}
 use Rattle.buck_dp.proofs.Logs.{start_is}
 use Rattle.buck_dp.proofs.TopLemmas.{IsAtMost-refl, IsAtMost-trans, worth_at_most, greater_first, greater_second, plus_more, settled_same, made_same}
 
@@ -60,6 +60,18 @@ offered_behind front offered = search (rules, cases_lt, get_or_append_left, get_
 pub can_behind : (front : List BidParts) {v : List BidParts} {start next : ℕ} {bid : BidParts}
     → CanOffer (length front + start) (length front + next) bid (front ++ v) → CanOffer start next bid v
 can_behind front can = search (rules, length-append, get_or-append-add)
+
+module _ {p : GroundParts} {ch : List ℕ} {t first stop : ℕ} {cells : List Cell} {v : List BidParts}
+    (is : AreOffered p ch t first stop cells 0 v) where
+  -- the cells of a part are chosen by their steps and the room behind the top
+  pub part_chosen : {room : ℕ} → room + t * p.sheet.instruction.«module» ≡ stem_length p.stem.samples
+      → AreChosen p t first stop (t - stop + 1) (t - first + 1) room cells
+  part_chosen behind k c at = grind (arith, is.order, is.search.below)
+
+  -- if all fit and start before the top, by their steps alone
+  pub all_chosen : {far : ℕ} → AllFit p far t cells → stop ≡ t
+      → AreChosen p t first stop 0 (t - first + 1) 4294967295 cells
+  all_chosen fit all k c at = grind (arith, (fit k c at), is.order, is.search.sound)
 
 module _ {p : GroundParts} {ch : List ℕ} {t first stop : ℕ} {cells : List Cell} {n : ℕ} {v : List BidParts}
     (was : AreOffered p ch t first stop cells n v) {c : Cell} (there : slice_get cells n ≡ Some c) where

@@ -1,5 +1,4 @@
 -- Price lists that grow, and rows drawn from them.
-use Rattle.std.proofs.Common.{if◌then◌else◌}
 use Rattle.buck_dp.proofs.Words.{IsAtMost, IsTied, IsTaker, slice_get-get_or, IsCovered, get_or, rules, ℕ, ◌+◌, ◌*◌, ◌<◌, ◌≤◌, ◌⊎◌, inl, inr, List, [], ◌∷◌, ◌++◌, All, Contains, length, length-map, get_or-map, map, refl}
 use Rattle.buck_dp.proofs.Words.{subst, ap, ◌∙◌, arith, ne_eqb}
 use Rattle.buck_dp.proofs.Words.{Term, le_of_mul-le-mul_right, mul-le-mul, mul-le-mul_left, mul-le-mul_right, div-mul-le_self, All-map, All-contains, Contains-get_or, volume, SheetParts, IsSheet, Offer, Quote, Ask, quote_bid, quote_at}

@@ -1,8 +1,8 @@
 -- Who takes the wood of a stem.
-use Rattle.buck_dp.proofs.Words.{slice_get, Some, IsPlaced, IsAssortment, ◌≡◌, ℕ, ◌+◌, ◌-◌, ◌*◌, ◌/◌, ◌<◌, ◌≤◌, ◌⊎◌, inl, inr, List, [], ◌∷◌, ◌++◌, zero, suc, get_or, length, refl, sym, subst, arith, mul-le-mul_left}
+use Rattle.buck_dp.proofs.Words.{IsAssortment, ◌≡◌, ℕ, ◌+◌, ◌-◌, ◌*◌, ◌/◌, ◌<◌, ◌≤◌, ◌⊎◌, inl, inr, List, [], ◌∷◌, ◌++◌, zero, suc, get_or, length, refl, sym, subst, arith, mul-le-mul_left}
 use Rattle.buck_dp.proofs.Words.{mul-le-mul_right, add-mul, rules, div-mul-le_self, le-div, le_of_mul-le-mul_right, min, div-lt_iff_lt-mul, cases_lt, append_assoc, append-nil, IsStem, grade_at, HasGrade, stem_length, diameter_at, IsMask}
 use Rattle.buck_dp.proofs.Words.{grade_at_is, mask_allows, IsSheet, slice_index, GroundParts, points_of, ends_of, Takers, IsTaker, AreTakersOf, BidParts, none, HasTakers, HasNoneOf, IsRow, IsPartTo, AreParts, HaveParts, IsEven, IsSearch}
-use Rattle.buck_dp.proofs.Words.{AreOffered, IsCell, log_at, AllFit, bid_at, IsNearest, IsSite, Site, Part, Cell, MarketParts, Head, IsMarketOf, IsRowOf, take, drop, IsLogAt}
+use Rattle.buck_dp.proofs.Words.{AreOffered, IsCell, log_at, AllFit, bid_at, IsNearest, IsSite, Site, Part, Cell, IsLogAt, MarketParts, IsMarketOf}
 use Rattle.buck_dp.proofs.ListLemmas.{all_at}
 use Rattle.buck_dp.proofs.Logs.{point_within, row_part}
 use Rattle.buck_stem.specs.points.Profile as grid
@@ -17,12 +17,6 @@ module _ {p : GroundParts} {values : List BidParts} {choices : List ℕ} where
       → ((k : ℕ) → get_or values k none ≡ none) → ((k : ℕ) → points_of p ≤ k → get_or choices k 0 ≡ 0)
       → IsSearch p values choices (points_of p) 0
   begun valid sound number room none_yet no_choice = grind (arith, bid_at, ends_of, mul-le-mul_right)
-
--- a row that is found under a sheet stands there
-pub row_under : (p : GroundParts) (m : MarketParts) (h : Head) {takers : Takers} {d : ℕ} → IsMarketOf p m
-    → IsRowOf m takers d h
-    → IsRow p.sheet p.menu.offers.items takers d p.menu.most_steps (take h.number (drop h.from m.cells))
-row_under p m h is row = search rules
 
 -- who takes wood of a stem's species and of the grades from a start to a top, takes the wood between them
 pub kind_takers : (p : GroundParts) (i t grades : ℕ) (takers : Takers) → IsStem p.stem
@@ -106,35 +100,36 @@ module _ {p : GroundParts} {x : Site} (is_site : IsSite p x) where
   module _ (ds : List ℕ)
       (right : (j : ℕ) → j < grid.points_of x.profile.now
       → slice_index ds j ≡ diameter_at x.profile.now.stem.samples (j * x.profile.now.«module»))
-      {t : ℕ} (lt : t < points_of p) {values : List BidParts} {choices : List ℕ} (row : List Cell) where
+      {t : ℕ} (lt : t < points_of p) {values : List BidParts} {choices : List ℕ} (row : List Cell)
+      (m : MarketParts) (market : IsMarketOf p m) where
     -- the row of a part can be offered to its starts
     pub part_open : {stop : ℕ} {part : Part} → IsSearch p values choices t stop → IsPartTo p t stop part
-        → IsRow p.sheet p.menu.offers.items part.group.takers (slice_index ds t)
-        p.menu.most_steps row
+        → IsRow m.sheet m.menu.offers.items part.group.takers (slice_index ds t) m.menu.most_steps row
         → AreOffered p choices t part.first stop row 0 values
     part_open {stop} {part} was here drawn = record {
       search = was;
-      part = row_part p is_site.valid here.takers (rw (rw is_site.profile at right t lt) at drawn);
+      part = row_part p is_site.valid here.takers
+          (rw (market.0, market.1, rw is_site.profile at right t lt) at drawn);
       order = omega (arith, here.first);
       done = λ k c none. absurd (omega (arith, none));
     }
 
     -- so for the nearest part, if each trim fits
     pub near_open : {near : Part} → IsSearch p values choices t t → IsNearest p x near t
-        → IsRow p.sheet p.menu.offers.items near.group.takers (slice_index ds t)
-        p.menu.most_steps row
-        → AreOffered p choices t near.first t row 0 values × AllFit p t row
-        × ((k : ℕ) (c : Cell) → slice_get row k ≡ Some c → IsPlaced p.menu.most_steps c)
-    near_open {near} was nearest drawn =
-        let cell = all_at (λ c. IsCell p.sheet p.menu.offers.items near.group.takers (slice_index ds t)
-        p.menu.most_steps c) row drawn.real in (
-          search (rules, part_open),
-          λ k c at.
-              let b = (cell k c at).bids in
-              let valid = all_at IsAssortment _ is_site.valid.valid.assortments_valid _ b.assortment b.exists in
-              (b.some, omega (arith, is_site.fit t nearest.fit, valid.trim_range, b.own)),
-          λ k c at. (cell k c at).placed,
-        )
+        → IsRow m.sheet m.menu.offers.items near.group.takers (slice_index ds t) m.menu.most_steps row
+        → AreOffered p choices t near.first t row 0 values × AllFit p p.menu.most_steps t row
+        × HasNoneOf p near.first t
+    near_open {near} was nearest drawn = (
+      part_open was nearest.part drawn,
+      λ k c at.
+          let is = rw (market.0, market.1) at drawn in
+          let cell = all_at (λ c. IsCell p.sheet p.menu.offers.items near.group.takers (slice_index ds t)
+          p.menu.most_steps c) row is.real k c at in
+          let b = cell.bids in
+          let valid = all_at IsAssortment _ is_site.valid.valid.assortments_valid _ b.assortment b.exists in
+          (b.some, omega (arith, is_site.fit t nearest.fit, valid.trim_range, b.own), cell.placed),
+      nearest.all,
+    )
 
   module _ {first past : ℕ} (even : IsEven x.profile.now first (past - 1 - 1)) where
     -- the grade of a place in the steps of a run stands in each of them

@@ -15,12 +15,12 @@ pub use Rattle.buck_stem.specs.Stem.{diameter_at, grade_at, HasGrade}
 pub use Rattle.buck_value.specs.Allowed.{trim_in, trim_of, last_position}
 pub use Rattle.buck_value.proofs.Rates.{worth_low}
 pub use Rattle.buck_dp.specs.Cutting.{IsCutFrom}
-pub use Rattle.buck_dp.specs.inner.Searched.{IsPlaced, HasRoom, AllFit, IsNear, IsPart, IsSettled, Reaches, IsMade, IsSearch, CanOffer, IsOffered, AreOffered}
+pub use Rattle.buck_dp.specs.inner.Searched.{IsPlaced, AllFit, AreChosen, IsNear, IsPart, IsSettled, Reaches, IsMade, IsSearch, CanOffer, IsOffered, AreOffered}
 pub use Rattle.buck_dp.specs.inner.Quotes.{IsTakersBid, IsSmall, quote_bid, IsAsked, IsQuote, AreTerms, AreQuotes, IsLed, IsLeading, cell_of, row_of, IsCell, IsRow, IsPriced, IsClassAt, HasNoPrice, quote_at, IsCovered, IsLeader, IsNext}
 pub use Rattle.buck_dp.specs.inner.Quotes.{IsTied, IsPruned, IsTerm}
 pub use Rattle.buck_dp.specs.inner.Logs.{bid_at, IsLogAt, HasTakers, HasNoneOf, next_after, GroundParts, points_of, ends_of, point_after, IsTaker, AreTakersOf, AreKnown}
 unfoldable pub use Rattle.buck_dp.specs.inner.Logs.{log_at}
-pub use Rattle.buck_dp.specs.inner.Market.{MarketParts, AllAre, IsAt, IsRowOf, IsListAt, HasTerms, HasQuotes, IsMarket}
+pub use Rattle.buck_dp.specs.inner.Market.{MarketParts, AllAre, IsAt, Stands, IsRowAt, IsListAt, HasTerms, HasQuotes, IsMarket}
 pub use Rattle.std.proofs.lemmas.List.Sums.{sum_by-cons, sum_by_more, sum_by-le}
 pub use Rattle.buck_value.proofs.Classes.{allowed_low, column_some, column_is, whole_steps}
 pub use Rattle.buck_dp.specs.Order.{IsLogBefore, IsBefore}

@@ -1,9 +1,10 @@
 //! A sheet, and what is kept of it from stem to stem: price lists, and rows drawn from them.
-ghost use Rattle.std.specs.Prelude.{◌≡◌, ℕ, ◌+◌, ◌≤◌, IfOk, IfSome, drop, length, slice_get, take, Some};
+ghost use Rattle.std.specs.Prelude.{◌≡◌, ℕ, ◌<◌, ◌≤◌, IfOk, IfSome, length};
 ghost use Rattle.buck_value.specs.Sheet.{IsSheet};
 ghost use Rattle.buck_dp.specs.inner.Logs.{AreTakersOf};
 ghost use Rattle.buck_dp.specs.declared.takers.Takers.{Takers};
-ghost use Rattle.buck_dp.specs.inner.Market.{IsMarket, HasSame, IsRowOf, IsListAt};
+ghost use Rattle.buck_dp.specs.inner.Quotes.{IsRow};
+ghost use Rattle.buck_dp.specs.inner.Market.{IsMarket, HasSame, IsRowAt, IsListAt};
 
 use crate::offering::{Cell, put_row};
 use crate::offers::Menu;
@@ -221,7 +222,7 @@ impl Market {
         Ok(place)
     }
 
-    /// Draws the row of a group at a diameter, noted at a slot.
+    /// Draws the row of a group at a diameter, noted at a slot. Tells the place of its head.
     #[inline(never)]
     fn draw(
         &mut self,
@@ -229,11 +230,11 @@ impl Market {
         group: Group,
         diameter: u32,
         slot: usize,
-    ) -> Result<Head, Memory>
+    ) -> Result<usize, Memory>
         requires diameter { diameter ≤ 1500 }
         requires slot { slot ≤ 1000000000 }
         ensures same { HasSame self.old self.new }
-        ensures row { IfOk result (IsRowOf self.new group.takers diameter) }
+        ensures row { IfOk result (IsRowAt self.new.heads group.takers diameter) }
     {
         self.clear_if_full();
         let at = self.quotes_at(alloc, group.takers, diameter)?;
@@ -242,7 +243,8 @@ impl Market {
             notes.resize(slot + 1, 0)?;
         }
         // If memory runs out below, the note names no head or another row's: `find` looks at whose row it is.
-        notes[slot] = self.heads.len();
+        let place = self.heads.len();
+        notes[slot] = place;
         // Room for the head first, so that no cells are left without one.
         self.heads.reserve(1)?;
         let quotes = self.quotes[at].list.as_slice();
@@ -254,43 +256,45 @@ impl Market {
         };
         put_row(&mut self.cells, quotes, diameter, self.menu.most_steps)?;
         self.heads.push_reserved(head);
-        Ok(head)
+        Ok(place)
     }
 
-    /// The head of the row of some takers at a diameter that was noted at a slot. A note is only a hint: the head tells
-    /// whose its row is.
+    /// The place of the head of the row of some takers at a diameter that was noted at a slot. A note is only a hint:
+    /// the head tells whose its row is.
     #[inline(always)]
-    fn find(&self, takers: Takers, diameter: u32, slot: usize) -> Option<Head>
-        ensures { IfSome result (IsRowOf self.now takers diameter) }
+    fn find(&self, takers: Takers, diameter: u32, slot: usize) -> Option<usize>
+        ensures { IfSome result (IsRowAt self.now.heads takers diameter) }
     {
-        let note = *self.notes.get(slot)?;
-        let head = *self.heads.get(note)?;
+        let place = *self.notes.get(slot)?;
+        let head = *self.heads.get(place)?;
         if head.takers != takers || head.diameter != diameter {
             return None;
         }
-        Some(head)
+        Some(place)
     }
 
-    /// The head of the row of a group at a diameter in mm. It is drawn if it isn't there. Refused as `Memory` alone.
+    /// The place of the head of the row of a group at a diameter in mm. The row is drawn if it isn't there. Refused as `Memory` alone.
     #[inline(always)]
-    pub fn row(&mut self, alloc: Global, group: Group, diameter: u32) -> Result<Head, Memory>
+    pub fn row(&mut self, alloc: Global, group: Group, diameter: u32) -> Result<usize, Memory>
         requires { diameter ≤ 1500 }
         ensures same { HasSame self.old self.new }
-        ensures row { IfOk result (IsRowOf self.new group.takers diameter) }
+        ensures row { IfOk result (IsRowAt self.new.heads group.takers diameter) }
     {
         let slot = usize::from(group.number) * DIAMETERS + diameter as usize;
-        match self.find(group.takers, diameter, slot) {
-            Some(head) => Ok(head),
-            None => self.draw(alloc, group, diameter, slot),
+        if let Some(place) = self.find(group.takers, diameter, slot) {
+            return Ok(place);
         }
+        self.draw(alloc, group, diameter, slot)
     }
 
-    /// The cells of a row.
+    /// The cells of the row whose head stands at a place.
     #[inline(always)]
-    pub fn cells(&self, head: Head) -> &[Cell]
-        requires { head.from + head.number ≤ length self.now.cells }
-        ensures { result.now ≡ take head.number (drop head.from self.now.cells) }
+    pub fn cells(&self, place: usize) -> &[Cell]
+        requires { place < length self.now.heads }
+        ensures { (takers : Takers) (d : ℕ) → IsRowAt self.now.heads takers d place
+            → IsRow self.now.sheet self.now.menu.offers.items takers d self.now.menu.most_steps result.now }
     {
+        let head = self.heads[place];
         &self.cells[head.from..head.from + head.number]
     }
 }

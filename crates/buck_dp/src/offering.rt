@@ -1,9 +1,9 @@
 //! What is done at one top: its value is settled, and its logs are offered to the points where they start.
-ghost use Rattle.std.specs.Prelude.{◌≡◌, ℕ, ◌+◌, ◌-◌, ◌<◌, ◌≤◌, ◌++◌, All, List, length, slice_get, Some, OnOk, OnErr};
+ghost use Rattle.std.specs.Prelude.{◌≡◌, ℕ, ◌+◌, ◌-◌, ◌<◌, ◌≤◌, ◌++◌, All, List, length, OnOk, OnErr};
 ghost use Rattle.buck_dp.specs.declared.offering.Cell.{Cell};
 ghost use Rattle.buck_dp.specs.inner.Bid.{BidParts};
 ghost use Rattle.buck_dp.specs.inner.Logs.{GroundParts};
-ghost use Rattle.buck_dp.specs.inner.Searched.{IsPlaced, AllFit, HasRoom, IsSearch, AreOffered, CanOffer, IsOffered};
+ghost use Rattle.buck_dp.specs.inner.Searched.{AllFit, IsSearch, AreOffered, AreChosen, CanOffer, IsOffered};
 ghost use Rattle.buck_dp.specs.declared.pricing.Quote.{Quote};
 ghost use Rattle.buck_dp.specs.inner.Quotes.{cell_of, row_of, IsSmall};
 
@@ -92,14 +92,41 @@ fn offer_bid(values: &mut [Bid], start: usize, next: usize, bid: Bid)
     values[start] = values[start].max(bid.plus(rest));
 }
 
+/// Offers the cells of a row at a top to the points where their logs start: those of the lengths, in steps, whose trim
+/// fits in the room in mm behind it.
+#[inline(always)]
+pub(crate) fn offer_some(
+    values: &mut [Bid],
+    top: usize,
+    lengths: Range<usize>,
+    room: u32,
+    row: &[Cell],
+)
+    requires open { (p : GroundParts) × (choices : List ℕ) × (first : ℕ) × (stop : ℕ)
+        × AreOffered p choices top first stop row.now 0 values.old
+        × AreChosen p top first stop lengths.start lengths.«end» room row.now }
+    ensures { (p : GroundParts) (choices : List ℕ) (first stop : ℕ)
+        → AreOffered p choices top first stop row.now 0 values.old
+        → AreChosen p top first stop lengths.start lengths.«end» room row.now
+        → IsSearch p values.new choices top first }
+{
+    // Rows aren't sorted: an order that ended this loop at the first cell too long would save some five per cent, and
+    // need a proof of its own.
+    for cell in row {
+        let steps = cell.steps as usize;
+        if lengths.start <= steps && steps < lengths.end && cell.trim <= room {
+            offer_bid(values, top - steps, top + cell.rise as usize, cell.bid);
+        }
+    }
+}
+
 /// Offers the cells of a row at the top `far` of values, which stand behind others, where their logs start.
 fn offer_back(values: &mut [Bid], far: usize, row: &[Cell])
-    requires row { (k : ℕ) (c : Cell) → slice_get row.now k ≡ Some c → IsPlaced far c }
     requires open { (p : GroundParts) × (choices : List ℕ) × (front : List BidParts) × (first : ℕ)
-        × (first ≤ length front) × AllFit p (length front + far) row.now
+        × (first ≤ length front) × AllFit p far (length front + far) row.now
         × AreOffered p choices (length front + far) first (length front + far) row.now 0 (front ++ values.old) }
     ensures { (p : GroundParts) (choices : List ℕ) (front : List BidParts) (first : ℕ)
-        → first ≤ length front → AllFit p (length front + far) row.now
+        → first ≤ length front → AllFit p far (length front + far) row.now
         → AreOffered p choices (length front + far) first (length front + far) row.now 0 (front ++ values.old)
         → IsSearch p (front ++ values.new) choices (length front + far) first }
 {
@@ -108,58 +135,20 @@ fn offer_back(values: &mut [Bid], far: usize, row: &[Cell])
     }
 }
 
-/// Offers the cells of a row at a top, which fit behind it, to those points from `first` on where their logs start.
-fn offer_short(values: &mut [Bid], top: usize, first: usize, row: &[Cell])
-    requires open { (p : GroundParts) × (choices : List ℕ) × AreOffered p choices top first top row.now 0 values.old
-        × AllFit p top row.now }
-    ensures { (p : GroundParts) (choices : List ℕ) → AreOffered p choices top first top row.now 0 values.old
-        → AllFit p top row.now → IsSearch p values.new choices top first }
-{
-    let most = top - first;
-    for cell in row {
-        let steps = cell.steps as usize;
-        if steps <= most {
-            offer_bid(values, top - steps, top + cell.rise as usize, cell.bid);
-        }
-    }
-}
-
 /// Offers the cells of a row at a top, which fit behind it, to those points from `first` on where their logs start. The
 /// row reaches `far` points back.
 #[inline(always)]
 pub(crate) fn offer_all(values: &mut [Bid], top: usize, first: usize, row: &[Cell], far: usize)
-    requires row { (k : ℕ) (c : Cell) → slice_get row.now k ≡ Some c → IsPlaced far c }
     requires open { (p : GroundParts) × (choices : List ℕ) × AreOffered p choices top first top row.now 0 values.old
-        × AllFit p top row.now }
+        × AllFit p far top row.now }
     ensures { (p : GroundParts) (choices : List ℕ) → AreOffered p choices top first top row.now 0 values.old
-        → AllFit p top row.now → IsSearch p values.new choices top first }
+        → AllFit p far top row.now → IsSearch p values.new choices top first }
 {
     // The sum never saturates: `far` is a row's reach along a stem, which no condition here bounds.
     if top < first.saturating_add(far) {
-        offer_short(values, top, first, row);
+        offer_some(values, top, 0..top - first + 1, u32::MAX, row);
         return;
     }
     let (_, reached) = values.split_at_mut(top - far);
     offer_back(reached, far, row);
-}
-
-/// Offers the cells of a row at a top to those of the starts where their logs begin, as far as they fit in the room in
-/// mm behind it.
-pub fn offer_some(values: &mut [Bid], top: usize, starts: Range<usize>, room: u32, row: &[Cell])
-    requires open { (p : GroundParts) × (choices : List ℕ)
-        × AreOffered p choices top starts.start starts.«end» row.now 0 values.old × HasRoom p top room }
-    ensures { (p : GroundParts) (choices : List ℕ)
-        → AreOffered p choices top starts.start starts.«end» row.now 0 values.old → HasRoom p top room
-        → IsSearch p values.new choices top starts.start }
-{
-    let most = top - starts.start;
-    let past = top - starts.end;
-    // Rows aren't sorted: an order that ended this loop at the first cell too long would save some five per cent, and
-    // need a proof of its own.
-    for cell in row {
-        let steps = cell.steps as usize;
-        if steps <= most && steps > past && cell.trim <= room {
-            offer_bid(values, top - steps, top + cell.rise as usize, cell.bid);
-        }
-    }
 }

@@ -37,6 +37,7 @@ impl Model for Planner {
 }
 
 /// The first of the best cuttings of a stem, and its worth.
+#[tactic(auto, using(crate::proofs::Lists::cut_bounded))]
 fn cut(alloc: Global, own: &mut Own, stem: &Stem) -> Result<(Cutting, u64), Memory>
     ensures same { own.new.search.market.sheet ≡ own.old.search.market.sheet }
     ensures first { IfOk result (λ found. IsFirstBest own.old.search.market.sheet stem.now found.0.logs.items) }

@@ -143,10 +143,13 @@ impl Search {
             let diameter = diameters[top - 1];
             let row = market.row(alloc, near.group, diameter)?;
             let cells = market.cells(row);
-            while top > last && diameters[top - 1] == diameter {
+            loop {
                 settle(values, choices, top);
                 top -= 1;
                 offer_all(values, top, near.first, cells, far);
+                if top == last || diameters[top - 1] != diameter {
+                    break;
+                }
             }
         }
         Ok(())
@@ -190,7 +193,8 @@ impl Search {
                     // From a row even for the first stem of a sheet: offers straight from a price list would be more
                     // code.
                     let row = market.row(alloc, part.group, diameters[top])?;
-                    offer_some(values, top, part.first..stop, room, market.cells(row));
+                    let lengths = top - stop + 1..top - part.first + 1;
+                    offer_some(values, top, lengths, room, market.cells(row));
                 }
                 stop = part.first;
             }

@@ -24,14 +24,18 @@ abbrev pub IsAt : SheetParts → Menu → List Cell → Head → Type 0
 IsAt s m cells h = (h.from + h.number ≤ length cells)
     × IsRow s m.offers.items h.takers h.diameter m.most_steps (take h.number (drop h.from cells))
 
--- so for the row of some takers at a diameter
-abbrev pub IsRowOf : MarketParts → Takers → ℕ → Head → Type 0
-IsRowOf x takers d h = (h.takers ≡ takers) × (h.diameter ≡ d) × IsAt x.sheet x.menu x.cells h
+-- what stands at a place of a list is right
+abbrev pub Stands : {X : Type 0} → (X → Type 0) → List X → ℕ → Type 0
+Stands {X} P xs n = (n < length xs) × ((x : X) → slice_get xs n ≡ Some x → P x)
+
+-- the head of the row of some takers at a diameter stands at a place
+abbrev pub IsRowAt : List Head → Takers → ℕ → ℕ → Type 0
+IsRowAt heads takers d n = Stands (λ (h : Head). (h.takers ≡ takers) × (h.diameter ≡ d)) heads n
 
 -- the price list of some takers for a diameter stands at a place
 abbrev pub IsListAt : {X : Type 0} → List (PriceList X) → Takers → ℕ → ℕ → Type 0
-IsListAt {X} lists takers d n = (n < length lists)
-    × ((l : PriceList X) → slice_get lists n ≡ Some l → (l.ask.takers ≡ takers) × IsAsked l.ask.band d)
+IsListAt {X} lists takers d n =
+    Stands (λ (l : PriceList X). (l.ask.takers ≡ takers) × IsAsked l.ask.band d) lists n
 
 -- a price list has the terms of an instruction for what a menu offers
 abbrev pub HasTerms : SheetParts → Menu → PriceList Term → Type 0

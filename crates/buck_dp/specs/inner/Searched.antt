@@ -1,5 +1,5 @@
 -- The values of points while the search goes from the top end down.
-use Rattle.std.specs.Prelude.{◌≡◌, ℕ, ◌+◌, ◌<◌, ◌≤◌, ◌≢◌, ◌⊎◌, List, length, get_or, slice_get, Some, ◌*◌, ◌-◌}
+use Rattle.std.specs.Prelude.{◌≡◌, ℕ, ◌+◌, ◌<◌, ◌≤◌, ◌≢◌, ◌⊎◌, List, length, get_or, slice_get, Some, ◌*◌, ◌-◌, ◌↔◌}
 use Rattle.buck_dp.specs.inner.Logs.{GroundParts, ends_of, IsLogAt, IsLow, bid_at}
 use Rattle.buck_dp.specs.inner.Bid.{BidParts, bid_of, none, IsAtMost, IsGreater, plus}
 use Rattle.buck_dp.specs.inner.Words.{IsStem, stem_length, IsSheet, Cell}
@@ -8,21 +8,23 @@ use Rattle.buck_dp.specs.inner.Words.{IsStem, stem_length, IsSheet, Cell}
 abbrev pub IsPlaced : ℕ → Cell → Type 0
 IsPlaced far c = (c.back + c.steps ≡ far) × (c.next ≡ far + c.rise)
 
--- a trim in mm is the room behind a top
-abbrev pub HasRoom : GroundParts → ℕ → ℕ → Type 0
-HasRoom p top room = room + top * p.sheet.instruction.«module» ≡ stem_length p.stem.samples
-
 -- the log of a cell with a top fits there
 abbrev pub IsFitting : GroundParts → ℕ → Cell → Type 0
 IsFitting p top c = c.trim + top * p.sheet.instruction.«module» ≤ stem_length p.stem.samples
 
--- so do those of all cells, which have some steps
-abbrev pub AllFit : GroundParts → ℕ → List Cell → Type 0
-AllFit p top cells = (k : ℕ) (c : Cell) → slice_get cells k ≡ Some c → (0 < c.steps) × IsFitting p top c
+-- so do those of all cells, which have some steps and are so placed
+abbrev pub AllFit : GroundParts → ℕ → ℕ → List Cell → Type 0
+AllFit p far top cells = (k : ℕ) (c : Cell) → slice_get cells k ≡ Some c
+    → (0 < c.steps) × IsFitting p top c × IsPlaced far c
 
 -- the log of a cell with a top fits there, and starts at point `first` or later, and before `stop`
 abbrev pub IsNear : GroundParts → ℕ → ℕ → ℕ → Cell → Type 0
 IsNear p top first stop c = (c.steps + first ≤ top) × (top < c.steps + stop) × IsFitting p top c
+
+-- those are the cells of a length, in steps, from some on and below others, whose trim is within the room in mm
+abbrev pub AreChosen : GroundParts → ℕ → ℕ → ℕ → ℕ → ℕ → ℕ → List Cell → Type 0
+AreChosen p top first stop from past room cells = (k : ℕ) (c : Cell) → slice_get cells k ≡ Some c
+    → IsNear p top first stop c ↔ ((from ≤ c.steps) × (c.steps < past) × (c.trim ≤ room))
 
 -- a cell bids no less for logs as long, or more worth for shorter ones
 abbrev pub Meets : Cell → ℕ → BidParts → Type 0

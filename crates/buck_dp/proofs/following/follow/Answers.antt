@@ -1,10 +1,12 @@
-use Rattle.buck_dp.proofs.Words.{rules, arith, ap, ◌∙◌, ◌∷◌, append_assoc, get_or_default, get_or, none, BidParts}
+use Rattle.buck_dp.proofs.Words.{◌≡◌, arith, ap, ◌∙◌, ◌∷◌, append_assoc, get_or_default, get_or, none, BidParts}
 use Rattle.buck_dp.proofs.Values.{best_skipped, best_begun, best_first}
 use Rattle.buck_dp.proofs.following.follow.Goals as goal
 
 pub loop-i-preserved-then-rank-eq0 : goal.loop-i-preserved-then-rank-eq0
-loop-i-preserved-then-rank-eq0 g c =
-    search (rules, (best_skipped c.requires.site.menu.offers c.requires.search c.loop-i.i))
+loop-i-preserved-then-rank-eq0 g c gs b =
+    let none : get_or c.args.search.now.choices.items c.loop-i.i 0 ≡ 0 =
+    omega (arith, ap (λ xs. get_or xs c.loop-i.i 0) c.as_slice-choices.ensures.value) in
+    c.loop-i.invariant gs (best_skipped c.requires.site.menu.offers c.requires.search c.loop-i.i gs none b)
 
 pub loop-i-preserved : goal.loop-i-preserved
 loop-i-preserved g c gs b =

@@ -6,19 +6,17 @@ pub offer_bid-requires : goal.offer_bid-requires
 offer_bid-requires c =
     let (p, ch, front, first, le, fit, is) = c.requires.open in
     let there = slice_get_read c.args.row.now _ _ _ refl c.loop-cell-test.true c.cell-item.is in
-    let placed = c.requires.row _ _ there in
-    let fits = fit _ _ there in
+    let (some, fits, placed) = fit _ _ there in
     can_behind front
     (cell_fits (c.loop-cell.invariant p ch front first le fit is) there
-    (omega (arith, placed), omega (arith, placed, fits), fits.1) (omega (arith, placed)) (omega (arith, placed)))
+    (omega (arith, placed), omega (arith, placed, some), fits) (omega (arith, placed)) (omega (arith, placed)))
 
 pub loop-cell-preserved : goal.loop-cell-preserved
 loop-cell-preserved c p ch front first le fit is =
     let there = slice_get_read c.args.row.now _ _ _ refl c.loop-cell-test.true c.cell-item.is in
-    let placed = c.requires.row _ _ there in
-    let fits = fit _ _ there in
+    let (some, fits, placed) = fit _ _ there in
     offered_more (c.loop-cell.invariant p ch front first le fit is) there
-    (omega (arith, placed), omega (arith, placed, fits), fits.1) (omega (arith, placed)) (omega (arith, placed))
+    (omega (arith, placed), omega (arith, placed, some), fits) (omega (arith, placed)) (omega (arith, placed))
     (offered_behind front c.offer_bid.ensures)
 
 pub returns : goal.returns

@@ -1,11 +1,8 @@
 use Rattle.std.proofs.Common.{true≢false}
-use Rattle.buck_dp.proofs.Words.{arith, rules, sym}
+use Rattle.buck_dp.proofs.Words.{arith, sym}
 use Rattle.buck_dp.proofs.QuoteLemmas.{pruned_on, pruned_past, list_right}
 use Rattle.buck_dp.proofs.pricing.put_list.Goals.{then-term-eq1+in_ok-put_quote, else-term-eq1+in_ok-put_quote-2}
 use Rattle.buck_dp.proofs.pricing.put_list.Goals as goal
-
-pub loop-term-init : goal.loop-term-init
-loop-term-init c = search rules
 
 pub loop-term-preserved : goal.loop-term-preserved
 loop-term-preserved c =

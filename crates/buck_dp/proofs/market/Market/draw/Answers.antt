@@ -1,4 +1,4 @@
-use Rattle.buck_dp.proofs.Words.{length-map, rules, refl, length, AllAre, IsAt}
+use Rattle.buck_dp.proofs.Words.{length-map, rules, AllAre, IsAt, IsRowAt}
 use Rattle.buck_dp.proofs.MarketLemmas.{row_found, row_put}
 use Rattle.buck_dp.proofs.market.Market.draw.Goals as goal
 
@@ -6,15 +6,10 @@ use Rattle.buck_dp.proofs.market.Market.draw.Goals as goal
 put : (c : goal.After-push_reserved)
     → AllAre (IsAt c.self.inside.sheet.value c.self.inside.menu c.put_row.new.cells.items)
     c.push_reserved.new.self.items
-    × IsAt c.self.inside.sheet.value c.self.inside.menu c.put_row.new.cells.items (record {
-      takers = c.args.group.takers;
-      diameter = c.args.diameter;
-      from = c.len-3.result;
-      number = length c.as_slice-quotes.result.now;
-    })
+    × IsRowAt c.push_reserved.new.self.items c.args.group.takers c.args.diameter c.len-place.result
 put c =
     let found = row_found c.self.invariant (rw (← c.self.view_is) at c.in_ok-at.ensures.place) c.index.ensures in
-    row_put c.self.inside.sheet.value c.self.inside.menu _ c.self.invariant.rows
+    row_put c.self.inside.sheet.value c.self.inside.menu _ c.len-place.result c.self.invariant.rows (search rules)
     (rw c.in_ok-reserve.ensures.items at c.push_reserved.ensures.items) c.in_ok-put_row.ensures.put
     (rw c.as_slice-quotes.ensures.value found.1) (search rules) (search (rules, length-map))
 
@@ -29,4 +24,4 @@ invariant_of-self-2 c =
     record { valid = w.valid; menu = w.menu; kinds = w.kinds; terms = w.terms; quotes = w.quotes; rows = (put c).0 }
 
 pub returns-clause-row : goal.returns-clause-row
-returns-clause-row c = (refl, refl, (put c).1)
+returns-clause-row c = (put c).1

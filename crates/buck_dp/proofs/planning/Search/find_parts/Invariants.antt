@@ -1,4 +1,4 @@
-use Rattle.buck_dp.proofs.Words.{ℕ, ◌+◌, ◌-◌, ◌<◌, IsEven, IsMaskBetween, IsMarketOf, IsPartTo}
+use Rattle.buck_dp.proofs.Words.{ℕ, ◌-◌, IsMaskBetween, IsMarketOf, IsPartTo}
 use Rattle.buck_dp.proofs.SiteLemmas.{AreFound}
 use Rattle.buck_dp.proofs.planning.Search.find_parts.Given as goal
 
@@ -8,8 +8,6 @@ ghost-run_before g a = g.p
 abbrev pub invariant-loop-part : goal.invariant-loop-part
 invariant-loop-part g l = record {
   market : IsMarketOf g.p l.market;
-  ahead : l.first + 1 < l.past;
-  even : IsEven l.site.profile.now l.first (l.past - 1 - 1);
   found : (stop : ℕ) × AreFound g.p l.first l.past stop l.parts.items × IsPartTo g.p (l.past - 1) stop l.part;
   mask : IsMaskBetween l.site.profile.now l.part.first (l.past - 1) l.grades;
 }

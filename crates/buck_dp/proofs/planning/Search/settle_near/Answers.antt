@@ -1,6 +1,6 @@
-use Rattle.buck_dp.proofs.Words.{◌≡◌, ℕ, ◌-◌, ◌∙◌, slice_get, Some, Cell, arith, rules, with_items_is, IsSearch, IsPlaced, AreOffered, AllFit}
+use Rattle.buck_dp.proofs.Words.{◌-◌, ◌∙◌, arith, rules, with_items_is, IsSearch, AreOffered, AllFit, HasNoneOf}
 use Rattle.buck_dp.proofs.OfferLemmas.{closed}
-use Rattle.buck_dp.proofs.SiteLemmas.{at_top, near_open, row_under}
+use Rattle.buck_dp.proofs.SiteLemmas.{at_top, near_open}
 use Rattle.buck_dp.proofs.planning.Search.settle_near.Goals.{After-settle}
 use Rattle.buck_dp.proofs.planning.Search.settle_near.Goals as goal
 
@@ -8,32 +8,41 @@ use Rattle.buck_dp.proofs.planning.Search.settle_near.Goals as goal
 opened : (g : _) (c : After-settle g)
     → AreOffered g.p c.settle.new.choices (c.loop-top-2.top - 1) c.args.near.first (c.loop-top-2.top - 1)
     c.cells-cells.result.now 0 c.settle.new.values
-    × AllFit g.p (c.loop-top-2.top - 1) c.cells-cells.result.now
-    × ((k : ℕ) (e : Cell) → slice_get c.cells-cells.result.now k ≡ Some e → IsPlaced g.p.menu.most_steps e)
+    × AllFit g.p c.menu.result.now.most_steps (c.loop-top-2.top - 1) c.cells-cells.result.now
+    × HasNoneOf g.p c.args.near.first (c.loop-top-2.top - 1)
 opened g c =
     let l = c.loop-top-2 in
     let same = c.in_ok-row.ensures.same in
     let was = c.loop-top.invariant.market in
-    near_open c.requires.0.site _ c.diameters-diameters.ensures.right (omega (arith, l.invariant.search.within)) _
-    c.settle.ensures (c.requires.1.1 (l.top - 1) (omega arith) (omega (arith, l.invariant.high, c.loop-top.invariant.high)))
-    (rw (c.cells-cells.ensures, c.if-diameters-top.true) (row_under g.p c.row.new.self _
-    (same.0 ∙ was.0, same.1 ∙ was.1) c.in_ok-row.ensures.row))
+    rw (c.menu.ensures, c.requires.0.market.1) (near_open c.requires.0.site _
+    c.diameters-diameters.ensures.right (omega (arith, l.invariant.search.within)) _ c.row.new.self
+    (same.0 ∙ was.0, same.1 ∙ was.1) c.settle.ensures
+    (c.requires.1.1 (l.top - 1) (omega arith) (omega (arith, l.invariant.high, c.loop-top.invariant.high)))
+    (rw (← l.invariant.here) (c.cells-cells.ensures _ _ c.in_ok-row.ensures.row)))
 
 pub offer_all-requires : goal.offer_all-requires
 offer_all-requires g c =
     let o = opened g (goal.at.offer_all-requires g c).After-settle in
-    record { row = rw (c.menu.ensures, c.requires.0.market.1) o.2; «open» = (g.p, c.settle.new.choices, o.0, o.1) }
+    record { «open» = (g.p, c.settle.new.choices, o.0, o.1) }
 
 pub loop-top-2-preserved : goal.loop-top-2-preserved
 loop-top-2-preserved g c =
-    let l = c.loop-top-2 in
     let o = opened g (goal.at.loop-top-2-preserved g c).After-settle in
     record {
       low = omega arith;
-      high = omega (arith, l.invariant.high);
-      first = λ same. absurd (omega (arith, same, l.invariant.high));
-      search = closed (c.offer_all.ensures g.p c.settle.new.choices o.0 o.1)
-          (c.requires.1.1 (l.top - 1) (omega arith) (omega (arith, l.invariant.high, c.loop-top.invariant.high))).all;
+      high = omega (arith, c.loop-top-2.invariant.high);
+      here = search rules;
+      search = closed (c.offer_all.ensures g.p c.settle.new.choices o.0 o.1) o.2;
+    }
+
+pub loop-top-preserved : goal.loop-top-preserved
+loop-top-preserved g c =
+    let o = opened g (goal.at.loop-top-preserved g c).After-settle in
+    record {
+      low = omega (arith, c.loop-top-2.invariant.low);
+      high = omega (arith, c.loop-top-2.invariant.high, c.loop-top.invariant.high);
+      search = closed (c.offer_all.ensures g.p c.settle.new.choices o.0 o.1) o.2;
+      market = search rules;
     }
 
 pub returns-clause-plan : goal.returns-clause-plan

@@ -1,4 +1,4 @@
-use Rattle.buck_dp.proofs.Words.{◌≡◌, ◌≤◌, ◌-◌, slice_index, IsSearch, IsMarketOf}
+use Rattle.buck_dp.proofs.Words.{◌≡◌, ◌<◌, ◌≤◌, ◌-◌, slice_index, IsSearch, IsMarketOf}
 use Rattle.buck_dp.proofs.planning.Search.settle_near.Given as goal
 
 abbrev pub ghost-settle : goal.ghost-settle
@@ -17,9 +17,9 @@ decreases-loop-top g l = l.top
 
 abbrev pub invariant-loop-top-2 : goal.invariant-loop-top-2
 invariant-loop-top-2 g l = record {
-  low : l.last ≤ l.top;
+  low : l.last < l.top;
   high : l.top ≤ l.initial.top;
-  first : l.top ≡ l.initial.top → l.diameter ≡ slice_index l.diameters (l.top - 1);
+  here : l.diameter ≡ slice_index l.diameters (l.top - 1);
   search : IsSearch g.p l.values l.choices l.top 0;
 }
 

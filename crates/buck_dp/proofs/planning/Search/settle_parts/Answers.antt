@@ -1,6 +1,6 @@
 use Rattle.buck_dp.proofs.Words.{◌-◌, ◌+◌, get_or, drop, drop-cons, drop_all, add-one, arith, rules, with_items_is, AreParts, IsPartTo, Part, points_of}
-use Rattle.buck_dp.proofs.OfferLemmas.{closed, searched_to}
-use Rattle.buck_dp.proofs.SiteLemmas.{at_top, part_open, none_near, point_reached, row_under}
+use Rattle.buck_dp.proofs.OfferLemmas.{closed, searched_to, part_chosen}
+use Rattle.buck_dp.proofs.SiteLemmas.{at_top, part_open, none_near, point_reached}
 use Rattle.buck_dp.proofs.planning.Search.settle_parts.Goals.{In-loop-part, then-top-part+in_ok-row, else-top-part}
 use Rattle.buck_dp.proofs.planning.Search.settle_parts.Goals as goal
 
@@ -21,9 +21,10 @@ pub offer_some-requires : goal.offer_some-requires
 offer_some-requires g c =
     let n = next g (goal.at.offer_some-requires g c).In-loop-part in
     let o = part_open c.requires.0.site _ c.diameters-diameters.ensures.right
-    (omega (arith, c.loop-top.invariant.search.within)) c.cells.result.now c.loop-part.invariant.search n.0
-    (search (rules, row_under)) in
-    record { «open» = (g.p, c.settle.new.choices, o, search (rules, points_of, point_reached)) }
+    (omega (arith, c.loop-top.invariant.search.within)) c.cells.result.now c.row.new.self (search rules)
+    c.loop-part.invariant.search n.0 (c.cells.ensures _ _ c.in_ok-row.ensures.row) in
+    let chosen = part_chosen o (search (rules, points_of, point_reached)) in
+    record { «open» = (g.p, c.settle.new.choices, _, c.loop-part.stop, o, chosen) }
 
 pub loop-part-preserved : goal.loop-part-preserved
 loop-part-preserved g c =
@@ -32,9 +33,10 @@ loop-part-preserved g c =
     elim c.if-top-part.branch [
       | then-top-part+in_ok-row w ↦
           let o = part_open c.requires.0.site _ c.diameters-diameters.ensures.right
-          (omega (arith, c.loop-top.invariant.search.within)) w.cells.result.now was n.0
-          (search (rules, row_under)) in
-          let all = w.offer_some.ensures g.p c.settle.new.choices o (search (rules, points_of, point_reached)) in
+          (omega (arith, c.loop-top.invariant.search.within)) w.cells.result.now w.row.new.self
+          (search rules) was n.0 (w.cells.ensures _ _ w.in_ok-row.ensures.row) in
+          let all = w.offer_some.ensures g.p c.settle.new.choices _ c.loop-part.stop o
+          (part_chosen o (search (rules, points_of, point_reached))) in
           record { search = rw w.values-is all; market = search rules; left = n.1 }
       | else-top-part w ↦
           let near = rw (c.menu.ensures, c.requires.0.market.1) at w.if-top-part.false in
