@@ -1,5 +1,5 @@
 -- Base prices, class by class, and prices within their spans.
-use Rattle.std.proofs.Common.{◌≡◌, ℕ, ◌+◌, ◌*◌, ◌<◌, ◌≤◌, inl, inr, List, [], ◌∷◌, length, length-append, take, get_or, slice_index, sum_by, All, refl, sym, ◌∙◌, ap, subst, arith, mul-le-mul_left}
+use Rattle.std.proofs.Common.{◌≡◌, ℕ, ◌+◌, ◌*◌, ◌<◌, ◌≤◌, inl, inr, List, [], ◌∷◌, length, length-append, take, take_all, get_or, slice_index, sum_by, All, refl, sym, ◌∙◌, ap, subst, arith, mul-le-mul_left}
 use Rattle.std.specs.List.{flat_map, AllByRecursion}
 use Rattle.std.proofs.lemmas.List.Concat.{get_or-flat_map}
 use Rattle.std.proofs.lemmas.List.Elements.{All-append, recursion_from_All}
@@ -94,3 +94,6 @@ base_sheet i prices v is = record {
   one_each = ap length is ∙ length-base_prices i v;
   in_span = λ k lt. subst (λ ps. IsPriceAt i ps k) (sym is) (base_in_span i k);
 }
+
+-- what going over the assortments goes by
+pub ruleset going_over = (room, base_at, take_all, length-base_prices)

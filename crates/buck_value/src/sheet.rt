@@ -151,6 +151,7 @@ impl Sheet {
 }
 
 /// The least place of a price outside its span, if there is one price for each class.
+#[tactic(auto, using(crate::proofs::Prices::going_over))]
 fn first_outside(instruction: &Instruction, prices: &[u32]) -> Option<usize>
     requires { length prices.now ≡ classes instruction.now }
     ensures found { IfSome result (λ at.

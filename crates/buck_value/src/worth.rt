@@ -89,6 +89,7 @@ pub fn column_of(assortment: &Assortment, length: u32) -> Option<usize>
 
 /// The wood of a stem from one place to another, in mm from the butt: its grades, and the diameter in mm where it ends.
 /// They are read from the stem's tables for a module if there are any.
+#[tactic(auto, using(crate::proofs::Classes::whole_steps))]
 fn wood_between(
     step: u32,
     stem: &Stem,
