@@ -15,7 +15,7 @@ pub use Rattle.buck_stem.specs.Stem.{diameter_at, grade_at, HasGrade}
 pub use Rattle.buck_value.specs.Allowed.{trim_in, trim_of, last_position}
 pub use Rattle.buck_value.proofs.Rates.{worth_low}
 pub use Rattle.buck_dp.specs.Cutting.{IsCutFrom}
-pub use Rattle.buck_dp.specs.inner.Searched.{IsPlaced, AllFit, AreChosen, IsNear, IsPart, IsSettled, Reaches, IsMade, IsSearch, CanOffer, IsOffered, AreOffered}
+pub use Rattle.buck_dp.specs.inner.Searched.{AllFit, AreChosen, IsNear, IsPart, IsSettled, Reaches, IsMade, IsSearch, CanOffer, IsOffered, AreOffered}
 pub use Rattle.buck_dp.specs.inner.Quotes.{IsTakersBid, IsSmall, quote_bid, IsAsked, IsQuote, AreTerms, AreQuotes, IsLed, IsLeading, cell_of, row_of, IsCell, IsRow, IsPriced, IsClassAt, HasNoPrice, quote_at, IsCovered, IsLeader, IsNext}
 pub use Rattle.buck_dp.specs.inner.Quotes.{IsTied, IsPruned, IsTerm}
 pub use Rattle.buck_dp.specs.inner.Logs.{bid_at, IsLogAt, HasTakers, HasNoneOf, next_after, GroundParts, points_of, ends_of, point_after, IsTaker, AreTakersOf, AreKnown}

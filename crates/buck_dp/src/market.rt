@@ -273,7 +273,8 @@ impl Market {
         Some(place)
     }
 
-    /// The place of the head of the row of a group at a diameter in mm. The row is drawn if it isn't there. Refused as `Memory` alone.
+    /// The place of the head of the row of a group at a diameter in mm. The row is drawn if it isn't there. Refused as
+    /// `Memory` alone.
     #[inline(always)]
     pub fn row(&mut self, alloc: Global, group: Group, diameter: u32) -> Result<usize, Memory>
         requires { diameter ≤ 1500 }

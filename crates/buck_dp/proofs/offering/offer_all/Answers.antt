@@ -13,21 +13,12 @@ returns-then-top-saturating_add c p ch is fit =
 
 pub offer_back-requires : goal.offer_back-requires
 offer_back-requires c =
-    let o = c.requires.«open» in
+    let (p, ch, is, fit) = c.requires.open in
     let parts = c.split_at_mut-reached in
-    let top : length parts.result.0.now + c.args.far ≡ c.args.top = omega (arith, parts.ensures.front_len) in
+    let front = parts.ensures.front_len in
+    let top : length parts.result.0.now + c.args.far ≡ c.args.top = omega (arith, front) in
     let all : parts.result.0.now ++ parts.result.1.now ≡ c.args.values.now = search rules in
-    record {
-      «open» = (
-        o.0,
-        o.1,
-        parts.result.0.now,
-        c.args.first,
-        omega (arith, parts.ensures.front_len),
-        rw top o.3,
-        rw (top, all) o.2,
-      );
-    }
+    record { «open» = (p, ch, parts.result.0.now, c.args.first, omega (arith, front), rw top fit, rw (top, all) is) }
 
 pub returns : goal.returns
 returns c p ch is fit =
