@@ -16,6 +16,7 @@ pub struct Offer {
 }
 
 /// The logs that an instruction offers: each length of each assortment, in order. Refused only if an allocation failed.
+#[tactic(auto, using(buck_value::proofs::Stands::stands))]
 pub fn offers_of(alloc: Global, instruction: &Instruction) -> Result<Vec<Offer>, AllocError>
     ensures { IfOk result (λ offers. AreOffers instruction.now offers.items) }
 {

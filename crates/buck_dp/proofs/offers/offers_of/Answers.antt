@@ -1,4 +1,4 @@
-use Rattle.buck_dp.proofs.Words.{rules, get_or, arith, ap, length, stands}
+use Rattle.buck_dp.proofs.Words.{get_or, arith, ap, length, stands}
 use Rattle.buck_dp.proofs.PricingLemmas.{more_offers, offers_sorted}
 use Rattle.buck_dp.proofs.offers.offers_of.Goals as goal
 
@@ -8,9 +8,6 @@ loop-length-preserved c =
     (more_offers {x = c.index-all-assortment.result} (grind (arith, stands))
     (grind (arith, c.lengths-length-items.ensures))
     (ap (λ ls. get_or ls c.loop-length.length-index 0) c.lengths-length-items.ensures.lengths) c.loop-length.invariant)
-
-pub loop-assortment-preserved : goal.loop-assortment-preserved
-loop-assortment-preserved c = search (rules, stands)
 
 pub returns : goal.returns
 returns c =
