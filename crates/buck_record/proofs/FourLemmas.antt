@@ -8,7 +8,6 @@ use Rattle.std.proofs.lemmas.Int.Digits.{digits_value_more}
 use Rattle.std.proofs.lemmas.Simd.{get_or-zip2, get_or-replicate, length-zip2, tops_compared, length-sel_l, get_or-sel_l, get_or_wider, get_or-chunk, length-chunk, chunk-fits, below_from_Fits}
 use Rattle.std.proofs.lemmas.Grind.{elements}
 use lib.Lanes.{zip2, sel_l, top, Each1, chunk, digits_l, number_l}
-unfoldable use Rattle.buck_record.specs.bytes.White.{first_word, after_word}
 use Rattle.buck_record.specs.inner.Front.{HasFour, IsThree, IsFront, HasFronts}
 use Rattle.buck_record.proofs.NumberLemmas.{AreDigits, digits_more, word_ends, number-some}
 

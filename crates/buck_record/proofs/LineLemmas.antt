@@ -18,7 +18,7 @@ use Rattle.buck_record.specs.bytes.White.{is_white, trim}
 unfoldable use Rattle.buck_record.specs.bytes.White.{trim_start, trim_end, first_word, after_word}
 unfoldable use Rattle.buck_record.specs.Reading.{each_from}
 use Rattle.buck_record.specs.bytes.Record.{is_tilde, filled_parts}
-unfoldable use Rattle.buck_record.specs.bytes.Record.{item_of, items_of, numbers_of, number_at_most}
+unfoldable use Rattle.buck_record.specs.bytes.Record.{item_of}
 use Rattle.buck_record.specs.pass.Cursor.{HasItems, item_in}
 use Rattle.buck_record.proofs.NumberLemmas.{numeral, digit_dark}
 use Rattle.buck_record.proofs.RoundLemmas.{dark, number-decimal}

@@ -4,7 +4,7 @@ use Rattle.std.specs.List.{AllByRecursion}
 use Rattle.std.specs.Fmt.{decimal}
 use Rattle.std.proofs.lemmas.List.{append-nil, drop_all, drop_more}
 use Rattle.buck_record.specs.bytes.White.{trim}
-unfoldable use Rattle.buck_record.specs.bytes.White.{trim_start, trim_end, words}
+unfoldable use Rattle.buck_record.specs.bytes.White.{words}
 unfoldable use Rattle.buck_record.specs.bytes.Record.{numbers_of}
 use Rattle.buck_record.proofs.RoundLemmas.{AreWhite, smaller, split-spaced, numbers_worded}
 unfoldable use Rattle.buck_record.specs.writing.Written.{spaced}

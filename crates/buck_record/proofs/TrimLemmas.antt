@@ -13,7 +13,6 @@ unfoldable use Rattle.buck_record.specs.bytes.Record.{item_of, items_of}
 use Rattle.buck_record.specs.bytes.Record.{number_at_most, pieces}
 use Rattle.buck_record.specs.checking.Table.{is_at, is_in, only_in}
 unfoldable use Rattle.buck_record.specs.checking.Table.{rest_in, groups_of}
-unfoldable use Rattle.buck_record.specs.checking.Check.{make_each}
 use Rattle.std.proofs.lemmas.List.Elements.{recursion_from_All, All-from_recursion, All-take, All-filter}
 use Rattle.buck_record.proofs.WhiteLemmas.{trim_again}
 
