@@ -52,7 +52,8 @@ module _ (i : InstructionParts) (ns : List ℕ) (h : IsInstruction i) (k : ℕ) 
   part_all P all = All-take P (classes_of (get_or i.assortments k d)) _ (All-drop P _ ns all)
 
   one_valid : (change : Change) → MayChange change i ns
-      → IsValid i.«module» (changed change (part i.assortments ns k (get_or i.assortments k d)) (get_or i.assortments k d))
+      → IsValid i.«module»
+      (changed change (part i.assortments ns k (get_or i.assortments k d)) (get_or i.assortments k d))
   one_valid Nothing may = (h.assortments_valid k d lt, h.on_module k d lt)
   one_valid Grades may =
       let range = all_within_ok 1 8 all_grades refl in

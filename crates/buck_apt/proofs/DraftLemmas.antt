@@ -67,7 +67,8 @@ module _ (a : AssortmentParts) (h : IsAssortment a) where
   single_again = elim (cases_Bool (a.trim == 0)) [ inl none ↦ rw none refl | inr some ↦ rw some refl ]
 
 -- each assortment's items are a group
-groups_again : (rest : List AssortmentParts) → groups_of NAME (flat_map assortment_items rest) ≡ map assortment_items rest
+groups_again : (rest : List AssortmentParts)
+    → groups_of NAME (flat_map assortment_items rest) ≡ map assortment_items rest
 unfolding groups_of member_items
 groups_again [] = refl
 groups_again (a ∷ []) = elim (cases_Bool (a.trim == 0)) [ inl none ↦ rw none refl | inr some ↦ rw some refl ]
@@ -87,12 +88,11 @@ module _ (i : InstructionParts) where
   none_twice (a ∷ rest) =
       elim (cases_Bool (a.trim == 0)) [ inl none ↦ rw none (none_twice rest) | inr some ↦ rw some (none_twice rest) ]
 
-  none_missing : (rest : List AssortmentParts)
-      → first_missing HEAD (head_items i ++ flat_map assortment_items rest) ≡ None
+  all_heads : (rest : List AssortmentParts) → first_missing HEAD (head_items i ++ flat_map assortment_items rest) ≡ None
   unfolding head_items member_items
-  none_missing [] = refl
-  none_missing (a ∷ rest) =
-      elim (cases_Bool (a.trim == 0)) [ inl none ↦ rw none (none_missing rest) | inr some ↦ rw some (none_missing rest) ]
+  all_heads [] = refl
+  all_heads (a ∷ rest) =
+      elim (cases_Bool (a.trim == 0)) [ inl none ↦ rw none (all_heads rest) | inr some ↦ rw some (all_heads rest) ]
 
   begins : (rest : List AssortmentParts) → 0 < length rest
       → begins_with_name (head_items i ++ flat_map assortment_items rest) ≡ true
@@ -129,7 +129,7 @@ module _ (i : InstructionParts) (h : IsInstruction i) where
   all_there =
       let name = begins i i.assortments (let n = h.assortments_number in omega arith) in
       let each_one = each_valid group_present assortment_items i h present_again in
-      rw (none_missing i i.assortments, name, groups_in i, each_one) refl
+      rw (all_heads i i.assortments, name, groups_in i, each_one) refl
 
   once : single (items_in i) ≡ Ok tt
   unfolding single

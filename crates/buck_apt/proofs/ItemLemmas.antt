@@ -136,7 +136,8 @@ all_say : (i : InstructionParts) → IsInstruction i → Says (text_of i) (items
 unfolding text_of head_items digits
 all_say i h =
     text_says file_slot (codes "1 2") (codes "APT") (omega arith, omega arith, refl) apt_plain
-    ⊕ one_says MODULE (codes "901 1") i.«module» (omega arith, omega arith, refl) (let s = h.module_range in omega arith)
+    ⊕ one_says MODULE (codes "901 1") i.«module» (omega arith, omega arith, refl)
+    (let s = h.module_range in omega arith)
     ⊕ one_says PERIOD (codes "902 1") i.period (omega arith, omega arith, refl) (let s = h.period_range in omega arith)
     ⊕ one_says LIMIT (codes "903 1") i.limit (omega arith, omega arith, refl) (let s = h.limit_range in omega arith)
     ⊕ one_says COUNT (codes "910 1") (length i.assortments) (omega arith, omega arith, refl)

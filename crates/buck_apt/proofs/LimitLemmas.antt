@@ -126,7 +126,7 @@ module _ (i : InstructionParts) (h : IsInstruction i) where
   counts_again : in_number (file_draft_for i) ≡ Ok tt
   unfolding in_number
   counts_again =
-      rw (eq-eqb (length i.assortments) (length (map draft_for i.assortments)) (sym (length-map i.assortments draft_for)))
+      rw (eq-eqb _ _ (sym (length-map i.assortments draft_for)))
       (each_valid draft_count draft_for i h count_again)
 
   steps_again : on_module (file_draft_for i) ≡ Ok tt
