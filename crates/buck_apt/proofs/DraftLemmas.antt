@@ -18,11 +18,10 @@ use Rattle.buck_apt.specs.Instruction.{AssortmentParts, InstructionParts, IsAsso
 use Rattle.buck_apt.specs.Apt.{groups, begins_with_name}
 unfoldable use Rattle.buck_apt.specs.Apt.{group_present, present, group_single, single, numbers_or, draft_of, file_draft_of, draft_in}
 use Rattle.buck_record.specs.writing.Written.{blank, row_start}
-use Rattle.buck_apt.proofs.Items.{assortment_items, items_in, draft_for, file_draft_for}
-unfoldable use Rattle.buck_apt.proofs.Items.{member_items, head_items}
+unfoldable use Rattle.buck_apt.proofs.ItemLemmas.{member_items, head_items}
 use Rattle.buck_record.proofs.RoundLemmas.{AreWhite}
 use Rattle.buck_record.proofs.SpacedLemmas.{said, said_again}
-use Rattle.buck_apt.proofs.ItemLemmas.{blank_white, row_white, small_from, small_within, classes_some}
+use Rattle.buck_apt.proofs.ItemLemmas.{assortment_items, items_in, draft_for, file_draft_for, blank_white, row_white, small_from, small_within, classes_some}
 
 -- one number
 one_again : (n : ℕ) → n ≤ 4294967295 → numbers_of (said blank (n ∷ [])) ≡ Ok (n ∷ [])

@@ -1,5 +1,5 @@
--- The items of an instruction's text are those that were written.
-use Rattle.std.proofs.Common.{◌≡◌, ℕ, ◌<◌, ◌≤◌, ◌%◌, ◌==◌, false, List, [], ◌∷◌, ◌++◌, All, Ok, length, refl, subst, sym, arith, append_assoc, codes, inl, inr}
+-- The items of an instruction's text, the draft that they say, and that the text is read as these items.
+use Rattle.std.proofs.Common.{◌≡◌, ℕ, ◌<◌, ◌≤◌, ◌%◌, ◌==◌, false, List, [], ◌∷◌, ◌++◌, All, Ok, length, map, refl, subst, sym, arith, append_assoc, codes, inl, inr}
 use Rattle.std.specs.List.{AllByRecursion, flat_map}
 use Rattle.std.specs.Fmt.{decimal}
 unfoldable use Rattle.std.specs.Fmt.{digits}
@@ -19,11 +19,70 @@ use Rattle.buck_record.specs.writing.Written.{spaced, blank, row_start}
 use Rattle.buck_record.specs.writing.Line.{item_text}
 use Rattle.buck_apt.specs.Text.{list_text, trim_text}
 unfoldable use Rattle.buck_apt.specs.Text.{wood_text, sizes_text, tables_text, assortment_text, text_of}
-use Rattle.buck_apt.proofs.Items.{trim_items, assortment_items, items_in}
-unfoldable use Rattle.buck_apt.proofs.Items.{member_items, head_items}
 use Rattle.buck_record.proofs.LineLemmas.{IsPlain, IsSaid, line_says, no_items}
 use Rattle.buck_record.proofs.RoundLemmas.{AreWhite}
 use Rattle.buck_record.proofs.SpacedLemmas.{said, AreSmall, numbers_are_said, spaced_said, trimmed_is_dark}
+use Rattle.std.specs.Prelude.{if◌then◌else◌}
+use Rattle.buck_apt.specs.declared.draft.Draft.{Draft}
+use Rattle.buck_apt.specs.declared.draft.FileDraft.{FileDraft}
+
+abbrev pub trim_items : ℕ → List ItemParts
+trim_items n = if n == 0 then [] else item_in TRIM (said blank (n ∷ [])) ∷ []
+
+-- the items of an assortment after its name
+unfoldable pub member_items : AssortmentParts → List ItemParts
+member_items a =
+    item_in SPECIES (said blank (a.species ∷ []))
+    ∷ item_in GRADES (said blank a.grades)
+    ∷ item_in PRICE_KIND (said blank (a.price_kind ∷ []))
+    ∷ item_in DIAMETERS (said blank a.diameters)
+    ∷ item_in UPPER (said blank (a.upper ∷ []))
+    ∷ item_in LENGTHS (said blank a.lengths)
+    ∷ item_in PRICES (said (row_start (length a.lengths)) a.prices)
+    ∷ item_in TARGETS (said (row_start (length a.lengths)) a.targets)
+    ∷ trim_items a.trim
+
+abbrev pub assortment_items : AssortmentParts → List ItemParts
+assortment_items a = item_in NAME a.name ∷ member_items a
+
+-- the items before the first assortment
+unfoldable pub head_items : InstructionParts → List ItemParts
+head_items i =
+    item_in file_slot (codes "APT")
+    ∷ item_in MODULE (said blank (i.«module» ∷ []))
+    ∷ item_in PERIOD (said blank (i.period ∷ []))
+    ∷ item_in LIMIT (said blank (i.limit ∷ []))
+    ∷ item_in COUNT (said blank (length i.assortments ∷ []))
+    ∷ []
+
+-- the items of an instruction's text
+abbrev pub items_in : InstructionParts → List ItemParts
+items_in i = head_items i ++ flat_map assortment_items i.assortments
+
+-- the draft that says an assortment
+abbrev pub draft_for : AssortmentParts → Draft
+draft_for a = record {
+  name = a.name;
+  species = a.species ∷ [];
+  grades = a.grades;
+  price_kind = a.price_kind ∷ [];
+  diameters = a.diameters;
+  upper = a.upper ∷ [];
+  lengths = a.lengths;
+  prices = a.prices;
+  targets = a.targets;
+  trim = a.trim ∷ [];
+}
+
+-- the draft that says an instruction
+abbrev pub file_draft_for : InstructionParts → FileDraft
+file_draft_for i = record {
+  «module» = i.«module» ∷ [];
+  period = i.period ∷ [];
+  limit = i.limit ∷ [];
+  count = length i.assortments ∷ [];
+  drafts = map draft_for i.assortments;
+}
 
 pub blank_white : AreWhite blank
 blank_white k = refl

@@ -16,10 +16,9 @@ use Rattle.buck_apt.specs.Instruction.{AssortmentParts, InstructionParts, IsAsso
 use Rattle.buck_apt.specs.Apt.{table, is_name, is_name_byte, none_found, first_off_module, assortment_of, instruction_of}
 unfoldable use Rattle.buck_apt.specs.Apt.{draft_range, draft_order, draft_count, in_range, in_order, in_number, on_module, in_targets, within_limits, apt_of}
 use Rattle.buck_apt.specs.Text.{text_of}
-use Rattle.buck_apt.proofs.Items.{assortment_items, items_in, draft_for, file_draft_for}
-unfoldable use Rattle.buck_apt.proofs.Items.{member_items, head_items}
+unfoldable use Rattle.buck_apt.proofs.ItemLemmas.{member_items, head_items}
 use Rattle.buck_record.specs.checking.Table.{is_in}
-use Rattle.buck_apt.proofs.ItemLemmas.{items_again}
+use Rattle.buck_apt.proofs.ItemLemmas.{assortment_items, items_in, draft_for, file_draft_for, items_again}
 use Rattle.buck_apt.proofs.DraftLemmas.{draft_in_again, each_passes, each_valid}
 
 within_from : (low high n : ℕ) → IsWithin low high n → within low high n ≡ true

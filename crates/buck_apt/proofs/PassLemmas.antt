@@ -1,6 +1,5 @@
--- What the lines of refusals that passed say: the numbers are within the limits.
-use Rattle.std.proofs.Common.{map, rules, ◌≡◌, ℕ, ◌*◌, ◌<◌, ◌≤◌, Bool, true, false, List, [], ◌∷◌, ◌==◌, Ok, Option, Some, None, length, sum, slice_index, refl, arith, eqb-true, All, zero, suc, add-one, nat_lt}
-use Rattle.std.proofs.Common.{◌%◌}
+-- What the lines of refusals that passed say: names are trimmed, and the numbers are within the limits.
+use Rattle.std.proofs.Common.{map, rules, ◌≡◌, ℕ, ◌*◌, ◌<◌, ◌≤◌, Bool, true, false, List, [], ◌∷◌, ◌==◌, Ok, Option, Some, None, length, sum, slice_index, refl, arith, eqb-true, All, zero, suc, add-one, nat_lt, ◌%◌, subst}
 use Rattle.std.specs.Prelude.{position}
 use Rattle.std.specs.List.{AllByRecursion, list_all}
 use Rattle.std.specs.List.Sorted.{IsStrictlyIncreasing}
@@ -15,18 +14,56 @@ use Rattle.buck_record.specs.checking.Rules.{one_to, is_rising}
 use Rattle.buck_record.proofs.PassLemmas.{AreRanged, passed, check_ok, then_ok, each_ok, both, within_ok, in_range_ok, ranged, counted_ok, counted}
 use Rattle.buck_apt.specs.declared.fault.AptFault.{AptFault}
 use Rattle.buck_apt.specs.declared.fault.AptFault.TheVariants.{Head, Range, Count, Module, Targets}
-use Rattle.buck_apt.specs.declared.slots.TheConstants.{MODULE, PERIOD, LIMIT, COUNT, LONGEST_NAME, SPECIES, GRADES, MOST_GRADES, PRICE_KIND, DIAMETERS, MOST_ROWS, UPPER, LENGTHS, MOST_COLUMNS, PRICES, TARGETS, MOST_TARGETS_TOGETHER, TRIM}
+use Rattle.buck_apt.specs.declared.slots.TheConstants.{MODULE, PERIOD, LIMIT, COUNT, LONGEST_NAME, SPECIES, GRADES, MOST_GRADES, PRICE_KIND, DIAMETERS, MOST_ROWS, UPPER, LENGTHS, MOST_COLUMNS, PRICES, TARGETS, MOST_TARGETS_TOGETHER, TRIM, NAME}
 use Rattle.buck_apt.specs.declared.draft.Draft.{Draft}
 use Rattle.buck_apt.specs.declared.draft.FileDraft.{FileDraft}
 use Rattle.buck_apt.specs.Instruction.{IsAssortment, IsWithin, IsNameByte, IsOnModule}
-use Rattle.buck_apt.specs.Apt.{is_name, is_name_byte, all_above, is_number_of, none_found, first_off_module, draft_range, draft_order, draft_count, in_range, in_order, in_number, on_module, in_targets, within_limits}
-use Rattle.buck_apt.specs.Apt.{assortment_of, draft_in, table}
+use Rattle.buck_apt.specs.Apt.{is_name, is_name_byte, all_above, is_number_of, none_found, first_off_module, draft_range, draft_order, draft_count, in_range, in_order, in_number, on_module, in_targets, within_limits, assortment_of, table, groups}
 use Rattle.buck_apt.specs.inner.Ready.{IsReadyDraft, IsReadyFile}
-use Rattle.buck_apt.proofs.NameLemmas.{IsNamed, AreNamed, draft_in_named}
 use Rattle.buck_record.specs.Item.{ItemParts}
 use Rattle.buck_record.specs.Reading.{with_fault}
 use Rattle.buck_record.specs.bytes.Record.{items_of}
 use Rattle.buck_record.specs.checking.Table.{only_in}
+use Rattle.buck_record.specs.bytes.White.{trim}
+unfoldable use Rattle.buck_record.specs.checking.Check.{make_each}
+use Rattle.buck_record.proofs.TrimLemmas.{AreBare, kept_bare, groups_bare, rest_bare}
+unfoldable use Rattle.buck_apt.specs.Apt.{draft_of, file_draft_of, draft_in}
+
+-- drafts of which each name is trimmed
+abbrev IsNamed : Draft → Type 0
+IsNamed d = trim d.name ≡ d.name
+
+abbrev AreNamed : FileDraft → Type 0
+AreNamed file = AllByRecursion IsNamed file.drafts
+
+draft_named : (group : List ItemParts) (d : Draft) → AreBare group → draft_of group ≡ Ok d → IsNamed d
+unfolding draft_of
+draft_named group d bare h = grind (arith, rest_bare NAME group bare)
+
+drafts_named : (groups : List (List ItemParts)) (made : List Draft) → AllByRecursion AreBare groups
+    → make_each draft_of groups ≡ Ok made → AllByRecursion IsNamed made
+unfolding make_each
+drafts_named [] made bare h = let e : [] ≡ made = cc in subst (AllByRecursion IsNamed) e tt
+drafts_named (group ∷ groups) made bare h =
+    let first : (d : Draft) → draft_of group ≡ Ok d → IsNamed d = λ d e. draft_named group d bare.0 e in
+    let more : (ds : List Draft) → make_each draft_of groups ≡ Ok ds → AllByRecursion IsNamed ds =
+    λ ds e. drafts_named groups ds bare.1 e in
+    grind (arith, first, more)
+
+file_named : (items : List ItemParts) (file : FileDraft) → AreBare items → file_draft_of items ≡ Ok file → AreNamed file
+unfolding file_draft_of
+file_named items file bare h =
+    let named : (made : List Draft) → make_each draft_of (groups items) ≡ Ok made → AllByRecursion IsNamed made =
+    λ made e. drafts_named (groups items) made (groups_bare NAME items bare) e in
+    grind (arith, named)
+
+-- the names of a draft that the items of some bytes say
+draft_in_named : (bytes : List ℕ) (items : List ItemParts) (file : FileDraft)
+    → with_fault Head (only_in table (items_of bytes)) ≡ Ok items → draft_in items ≡ Ok file → AreNamed file
+unfolding draft_in
+draft_in_named bytes items file read h =
+    let bare = kept_bare Head table bytes items read in
+    grind (arith, file_named items file bare)
 
 -- the one number of an item
 one_of : (item : Slot) (ns : List ℕ) → AreRanged item ns → length ns ≡ 1
