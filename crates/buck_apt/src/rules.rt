@@ -1,5 +1,5 @@
 //! Tests of numbers and names.
-ghost use Rattle.std.specs.Prelude.{◌≡◌, ◌<◌, ◌==◌, length, nat_le, nat_lt, not, find, sum, slice_index};
+ghost use Rattle.std.specs.Prelude.{◌≡◌, ◌<◌, length, nat_lt, sum};
 ghost use Rattle.std.specs.List.{list_all};
 ghost use Rattle.buck_apt.specs.Apt.{is_name, is_name_byte, all_above, first_off_module};
 
