@@ -60,6 +60,7 @@ fn push_between(
 }
 
 /// Puts the diameters at each step along the samples into an empty list.
+#[tactic(auto, using(crate::proofs::Diameters::least_next))]
 fn push_along(samples: &[u16], step: u32, out: &mut Vec<u32>) -> Result<(), AllocError>
     requires some { 0 < length samples.now }
     requires step { (10 ≤ step) × (step ≤ 1000) }
