@@ -36,6 +36,7 @@ fn put_at_samples(samples: &[u16], out: &mut Vec<u32>) -> Result<(), AllocError>
 
 /// Puts the diameters at each step from `part` mm past a sample on and before the next sample behind the others. The
 /// answer is how far past the next sample the step after them is, in mm.
+#[tactic(auto, using(crate::proofs::Diameters::fallen))]
 fn push_between(
     low: u32,
     next: u32,
@@ -43,7 +44,7 @@ fn push_between(
     step: u32,
     out: &mut Vec<u32>,
 ) -> Result<u32, AllocError>
-    requires low { (low ≤ 65535) × (next ≤ 65535) }
+    requires low { (low ≤ 65535) × (next ≤ low) }
     requires step { (10 ≤ step) × (step ≤ 1000) }
     requires part { part < step }
     ensures part { IfOk result (λ r. r < step) }
@@ -52,8 +53,9 @@ fn push_between(
         → AreDiametersTo samples step i part out.old.items → AreDiametersTo samples step (i + 1) r out.new.items) }
 {
     let mut past = part;
+    let fall = low - next;
     while past < 100 {
-        out.push((low * (100 - past) + next * past) / 100)?;
+        out.push((low * 100 - fall * past) / 100)?;
         past += step;
     }
     Ok(past - 100)
