@@ -4,7 +4,8 @@ use Rattle.buck_stem.proofs.points.profile.Profile.run_start.Goals as goal
 
 pub returns-clause-same : goal.returns-clause-same
 returns-clause-same c = λ j mask lt within shows k low upto.
-    same_masks c.args.self.now.stem.zones c.args.self.now.«module» k c.args.i j c.step.result.mask mask (search rules) lt
+    let p = c.args.self.now in
+    same_masks p.stem.zones p.«module» k c.args.i j c.step.result.mask mask (search rules) lt
     upto (λ n from to. c.step.ensures.right n (omega arith) to) shows
 
 pub returns-clause-even : goal.returns-clause-even
