@@ -202,6 +202,30 @@ impl Search {
         Ok(())
     }
 
+    /// [`settle_parts`](Search::settle_parts), if there are tops to settle. Most stretches of a run have none, and to
+    /// begin with one costs a hundredth of a plan.
+    #[inline(always)]
+    fn settle_stretch(
+        &mut self,
+        alloc: Global,
+        site: Site<'_>,
+        past: usize,
+        last: usize,
+    ) -> Result<(), Memory>
+        ghost p: { GroundParts }
+        requires plan { IsPlan p site self.old past }
+        requires order { last ≤ past }
+        requires parts { HaveParts p last past self.old.parts.items }
+        ensures market { IsMarketOf p self.new.market }
+        ensures plan { OnOk result (IsPlan p site.entry self.new last) }
+        ensures parts { self.new.parts ≡ self.old.parts }
+    {
+        if past == last {
+            return Ok(());
+        }
+        self.settle_parts(alloc, site, past, last)
+    }
+
     /// Settles the tops behind the steps of one run, those before `past`. Tells the first of them.
     fn settle_run(&mut self, alloc: Global, site: Site<'_>, past: usize) -> Result<usize, Memory>
         ghost p: { GroundParts }
@@ -234,11 +258,11 @@ impl Search {
         // From the top down: tops behind which a trim may not fit, tops whose logs all start in the nearest part, tops
         // whose logs start in several, and tops without logs, which want no parts. With two stretches `buck` is a fifth
         // slower at a module of 10 mm, for 190 lines less; with one loop it is slower still.
-        self.settle_parts(alloc, site, past, fitting)?;
+        self.settle_stretch(alloc, site, past, fitting)?;
         self.settle_near(alloc, site, near, fitting, nearest)?;
-        self.settle_parts(alloc, site, nearest, some)?;
+        self.settle_stretch(alloc, site, nearest, some)?;
         self.parts.clear();
-        self.settle_parts(alloc, site, some, last)?;
+        self.settle_stretch(alloc, site, some, last)?;
         Ok(last)
     }
 

@@ -5,7 +5,7 @@ use Rattle.buck_dp.proofs.planning.Search.settle_run.Goals as goal
 pub settle_near-requires : goal.settle_near-requires
 settle_near-requires g c =
     let menu = c.menu-menu.ensures ∙ c.in_ok-first.ensures.market.1 in (
-      c.in_ok-settle_parts-2.ensures.plan,
+      c.in_ok-settle_stretch.ensures.plan,
       (
         omega arith,
         λ t low high. near_run c.requires.0.site t _ _
@@ -14,8 +14,8 @@ settle_near-requires g c =
       ),
     )
 
-pub settle_parts-requires-4 : goal.settle_parts-requires-4
-settle_parts-requires-4 g c =
+pub settle_stretch-requires-3 : goal.settle_stretch-requires-3
+settle_stretch-requires-3 g c =
     let menu = c.menu-menu.ensures ∙ c.in_ok-first.ensures.market.1 in
     let least : c.menu-menu.result.now.least_steps ≡ g.p.menu.least_steps = ap (λ (m : Menu). m.least_steps) menu in (
       search rules,

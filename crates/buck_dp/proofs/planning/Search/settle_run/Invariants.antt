@@ -8,3 +8,6 @@ ghost-settle_parts g a = g.p
 
 abbrev pub ghost-settle_near : goal.ghost-settle_near
 ghost-settle_near g a = g.p
+
+abbrev pub ghost-settle_stretch : goal.ghost-settle_stretch
+ghost-settle_stretch g a = g.p
