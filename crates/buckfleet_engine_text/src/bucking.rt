@@ -36,9 +36,9 @@ pub(crate) fn put_named_line(
 {
     out.extend_from_slice(words)?;
     put_numbers(out, numbers)?;
-    out.extend_from_slice(b" ")?;
+    out.push(b' ')?;
     out.extend_from_slice(name)?;
-    out.extend_from_slice(b"\n")?;
+    out.push(b'\n')?;
     Ok(())
 }
 
