@@ -73,21 +73,17 @@ MOST_PARAMETERS = 5
 # So many lines are wider today: texts and styles that stand as they are printed, and long clauses. None may be added; a
 # crate that isn't named has none.
 WIDE = {
-    "buck_record": 4,
+    "buck_record": 1,
     "buckfleet_explain": 38,
-    "buck_apt": 2,
-    "buck_stem": 4,
-    "buck_dp": 21,
-    "buck_book_postings": 5,
-    "buck_book_journal": 2,
-    "buck_fleet": 3,
-    "buck_fleet_round_robin": 1,
-    "buck_page_charts": 1,
+    "buck_stem": 1,
+    "buck_dp": 1,
+    "buck_book_postings": 4,
+    "buck_book_journal": 1,
+    "buck_fleet": 2,
     "buck_page": 10,
     "buckfleet_engine_page": 8,
-    "buckfleet_engine": 2,
-    "buckfleet_command": 1,
-    "buckfleet": 4,
+    "buckfleet_engine": 1,
+    "buckfleet": 3,
 }
 
 # So many functions have more parameters today. None may be added; a crate that isn't named has none.
