@@ -5,8 +5,8 @@
 //! [`numbers_into`] reads numbers into a list that is kept, and [`two_parts`] cuts a file for threads.
 //! [`table`] looks items up by number and kind, [`check`] chains the checks of a reader that stands on this crate,
 //! [`rules`] has what such readers share, [`Described`] is what is said of an item, and [`laws`] says that what is
-//! written is read again. [`FormFault`] is what their faults have in common, [`Numbered`] how a fault is reported, and
-//! [`text`] writes its text. [`put_number`], [`put_after`], [`put_numbers`] and [`put_line`] write.
+//! written is read again. [`FormFault`] is what their faults have in common, [`Numbered`] how a fault is reported.
+//! [`put_number`], [`put_after`], [`put_numbers`] and [`put_line`] write.
 #![tactic(auto)]
 
 mod bytes;
@@ -40,4 +40,3 @@ pub use pass::kept_numbers::numbers_into;
 pub use pass::parts::two_parts;
 pub use slot::Slot;
 pub use writing::line::{put_after, put_line, put_number, put_numbers};
-pub use writing::text;

@@ -1,5 +1,5 @@
 //! Faults that are reported as a number and fields.
-ghost use Rattle.std.specs.Prelude.{◌≡◌, ◌≤◌, List, ℕ, length, drop};
+ghost use Rattle.std.specs.Prelude.{◌≡◌, ◌≤◌, List, ℕ, length};
 
 use std::marker::Model;
 
@@ -31,17 +31,6 @@ impl FaultNumbers {
         FaultNumbers {
             held,
             len: numbers.len(),
-        }
-    }
-
-    /// The fields alone.
-    pub fn fields(&self) -> &[u64]
-        ensures { result.now ≡ drop 1 self.now }
-    {
-        if self.len == 0 {
-            &self.held[..0]
-        } else {
-            &self.held[1..self.len]
         }
     }
 

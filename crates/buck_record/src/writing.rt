@@ -1,3 +1,2 @@
-//! Lines, items and the texts of faults, as they are written.
+//! Lines and items as they are written.
 pub(crate) mod line;
-pub mod text;

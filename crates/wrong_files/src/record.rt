@@ -362,14 +362,6 @@ pub fn fault_numbers_without_the_last() {
     prove!(right.as_slice() != wrong);
 }
 
-/// The number of a fault is given as its first field.
-pub fn fault_fields_with_the_number() {
-    let numbers = FaultNumbers::of(&[5, 916, 1]);
-    let right = numbers.fields();
-    let wrong: &[u64] = &[5, 916, 1];
-    prove!(right != wrong);
-}
-
 /// A fault of an item has the number of another fault.
 pub fn numbers_of_another_fault() {
     let right = AptFault::missing(UPPER).numbers();
