@@ -176,6 +176,7 @@ impl Search {
         let market = &mut self.market;
         let module = market.sheet().instruction().module();
         let least = market.menu().least_steps;
+        let length = site.stem.length();
         let parts = self.parts.as_slice();
         let values = self.values.as_mut_slice();
         let choices = self.choices.as_mut_slice();
@@ -183,7 +184,7 @@ impl Search {
         while top > last {
             settle(values, choices, top);
             top -= 1;
-            let room = site.stem.length() - top as u32 * module;
+            let room = length - top as u32 * module;
             let mut stop = top;
             for part in parts {
                 // If even the first start of a part is too near for the shortest log, none starts there. To try each
