@@ -114,7 +114,7 @@ pub(crate) fn offer_some(
     // need a proof of its own.
     for cell in row {
         let steps = cell.steps as usize;
-        if lengths.start <= steps && steps < lengths.end && cell.trim <= room {
+        if steps < lengths.end && lengths.start <= steps && cell.trim <= room {
             offer_bid(values, top - steps, top + cell.rise as usize, cell.bid);
         }
     }

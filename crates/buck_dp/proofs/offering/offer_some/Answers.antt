@@ -1,6 +1,6 @@
 use Rattle.buck_dp.proofs.Words.{arith, refl, slice_get_read}
 use Rattle.buck_dp.proofs.OfferLemmas.{cell_fits, offered_less, offered_more, offered_part}
-use Rattle.buck_dp.proofs.offering.offer_some.Goals.{then-lengths-steps+then-steps-lengths+then-cell-room, else-lengths-steps}
+use Rattle.buck_dp.proofs.offering.offer_some.Goals.{then-steps-lengths+then-lengths-steps+then-cell-room, else-steps-lengths}
 use Rattle.buck_dp.proofs.offering.offer_some.Goals as goal
 
 pub offer_bid-requires : goal.offer_bid-requires
@@ -14,13 +14,13 @@ pub loop-cell-preserved : goal.loop-cell-preserved
 loop-cell-preserved c p ch first stop is chosen =
     let there = slice_get_read c.args.row.now _ _ _ refl c.loop-cell-test.true c.cell-item.is in
     let was = c.loop-cell.invariant p ch first stop is chosen in
-    elim c.if-lengths-steps.branch [
-      | then-lengths-steps+then-steps-lengths+then-cell-room w ↦
+    elim c.if-steps-lengths.branch [
+      | then-steps-lengths+then-lengths-steps+then-cell-room w ↦
           let near = (chosen _ _ there).1 (omega arith, omega arith, omega (arith, w.if-cell-room.true)) in
           rw w.values-is (offered_more was there near (omega (arith, near.0)) refl w.offer_bid.ensures)
-      | else-lengths-steps w ↦
+      | else-steps-lengths w ↦
           let near = (chosen _ _ there).0 in
-          rw w.values-is (offered_less was there (λ is. grind (arith, near is, w.else-lengths-steps.branch)))
+          rw w.values-is (offered_less was there (λ is. grind (arith, near is, w.else-steps-lengths.branch)))
     ]
 
 pub returns : goal.returns
