@@ -1,6 +1,7 @@
 //! The text of a bucking.
-ghost use Rattle.std.specs.Prelude.{◌≡◌, ◌++◌, ◌+◌, ◌<◌, ◌^◌, IfOk, OnOk, All};
+ghost use Rattle.std.specs.Prelude.{◌≡◌, ◌++◌, ◌+◌, ◌<◌, ◌^◌, ◌∷◌, [], IfOk, OnOk, All, codes};
 ghost use Rattle.std.specs.List.{flat_map};
+ghost use Rattle.buck_record.specs.writing.Written.{spelled};
 ghost use Rattle.buck_value.specs.Allowed.{IsAllowed};
 ghost use Rattle.buckfleet_engine_text.specs.inner.Text.{AreLines, AreLinesOf, IsPut};
 ghost use Rattle.buckfleet_engine_text.specs.Text.{joined};
@@ -9,9 +10,9 @@ ghost use Rattle.buckfleet_engine_text.specs.Bucking.{IsBuckText, IsTextUnder, b
 use crate::fault::TextFault;
 use buck_apt::Instruction;
 use buck_dp::Planner;
-use buck_record::{Memory, put_line, put_numbers};
+use buck_record::{Memory, put_line, put_number, put_numbers};
 use buck_stem::Stem;
-use buck_value::{Log, Sheet, valuation_of_allowed};
+use buck_value::{Log, Sheet, Valuation, valuation_of_allowed};
 use std::alloc::Global;
 use std::sync::Arc;
 use std::thread;
@@ -25,6 +26,16 @@ struct Lines {
     worth: u128,
 }
 
+/// Puts a name behind a space, and ends the line.
+fn end_with_name(out: &mut Vec<u8>, name: &[u8]) -> Result<(), Memory>
+    ensures { OnOk result (out.new.items ≡ out.old.items ++ (codes " " ++ (name.now ++ codes "\n"))) }
+{
+    out.push(b' ')?;
+    out.extend_from_slice(name)?;
+    out.push(b'\n')?;
+    Ok(())
+}
+
 /// Puts a line that ends with a name.
 pub(crate) fn put_named_line(
     out: &mut Vec<u8>,
@@ -36,10 +47,45 @@ pub(crate) fn put_named_line(
 {
     out.extend_from_slice(words)?;
     put_numbers(out, numbers)?;
-    out.push(b' ')?;
-    out.extend_from_slice(name)?;
-    out.push(b'\n')?;
-    Ok(())
+    end_with_name(out, name)
+}
+
+/// Puts three numbers in decimal, each after a space.
+#[inline(always)]
+fn put_three(out: &mut Vec<u8>, first: u64, second: u64, third: u64) -> Result<(), Memory>
+    ensures { OnOk result (out.new.items ≡ out.old.items ++ spelled (first ∷ second ∷ third ∷ [])) }
+{
+    // One by one: a list of them would be written in a loop, which costs a hundredth of `buck`.
+    put_number(out, u128::from(first))?;
+    put_number(out, u128::from(second))?;
+    put_number(out, u128::from(third))
+}
+
+/// Puts the numbers of a log's line.
+#[inline(always)]
+fn put_numbers_of(out: &mut Vec<u8>, log: &Log, found: Valuation) -> Result<(), Memory>
+    ensures { OnOk result (out.new.items ≡ out.old.items ++ spelled
+        (log.now.start ∷ log.now.length ∷ found.top
+        ∷ found.class.row ∷ found.class.column ∷ found.worth ∷ [])) }
+{
+    put_three(out, log.start.into(), log.length.into(), found.top.into())?;
+    put_three(
+        out,
+        found.class.row.into(),
+        found.class.column.into(),
+        found.worth,
+    )
+}
+
+/// Puts the line of a log of the assortment of this name, which was found to be so.
+fn put_found(out: &mut Vec<u8>, log: &Log, found: Valuation, name: &[u8]) -> Result<(), Memory>
+    ensures { OnOk result (out.new.items ≡ out.old.items ++ named_line_of (codes "LOG")
+        (log.now.start ∷ log.now.length ∷ found.top
+        ∷ found.class.row ∷ found.class.column ∷ found.worth ∷ []) name.now) }
+{
+    out.extend_from_slice(b"LOG")?;
+    put_numbers_of(out, log, found)?;
+    end_with_name(out, name)
 }
 
 /// Puts the line of a log.
@@ -50,15 +96,7 @@ fn put_log(out: &mut Vec<u8>, sheet: &Sheet, stem: &Stem, log: &Log) -> Result<(
 {
     let found = valuation_of_allowed(sheet, stem, log);
     let assortment = &sheet.instruction().assortments()[log.assortment as usize];
-    let numbers = [
-        u128::from(log.start),
-        u128::from(log.length),
-        u128::from(found.top),
-        u128::from(found.class.row),
-        u128::from(found.class.column),
-        u128::from(found.worth),
-    ];
-    put_named_line(out, b"LOG", &numbers, assortment.name())
+    put_found(out, log, found, assortment.name())
 }
 
 /// Puts a line for each log, as [`buck_text`] does, by the prices of a sheet. `Memory` if an allocation failed.
