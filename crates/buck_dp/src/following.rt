@@ -44,8 +44,7 @@ pub(crate) fn follow(
     ensures worth { IfOk result (λ best. best.1 ≡ cutting_worth p.sheet p.stem best.0.items) }
 {
     let choices = search.choices.as_slice();
-    // Room for the logs of most stems.
-    let mut logs = Vec::with_capacity(alloc, 8)?;
+    let mut logs = Vec::new(alloc);
     let mut i = 0;
     while i < choices.len() {
         let rank = choices[i];
