@@ -14,7 +14,7 @@ use Rattle.buckfleet_engine_input.specs.Harvest.{AreNoSeats, IsFleetFault, IsHar
 use Rattle.buckfleet_engine_files.specs.Lent.{OfWriter}
 use Rattle.buckfleet_engine.specs.inner.Fleet.{AreWritten}
 use Rattle.buckfleet_engine_files.proofs.Runs.{no_answer}
-use Rattle.buckfleet_engine_input.proofs.Lists.{fleet_fault}
+use Rattle.buckfleet_engine_input.proofs.ListLemmas.{fleet_fault}
 
 -- nothing is written if there is no history
 pub no_texts : (reads : ReadsApt) (order : Order) (ByRule : HistoryParts → Type 0) (apt : Option (List ℕ))

@@ -12,7 +12,7 @@ use Rattle.buckfleet_engine_files.specs.declared.fault.EngineFault.{EngineFault}
 use Rattle.buckfleet_engine_files.specs.declared.fault.EngineFault.TheVariants.{Full, Write}
 use Rattle.buckfleet_engine_input.specs.Harvest.{HaveTooMany, IsCuttingFault, IsFleetFault}
 use Rattle.buckfleet_engine_files.specs.Written.{AppendsSome, IsWritten, WritesText}
-use Rattle.buckfleet_engine_input.proofs.Lists.{accepted, too_many, fleet_fault}
+use Rattle.buckfleet_engine_input.proofs.ListLemmas.{accepted, too_many, fleet_fault}
 use Rattle.buckfleet_engine_files.proofs.Runs.{IsNoWrite, no_answer}
 use Rattle.buckfleet_trial_sweep.specs.Runs.{IsStop}
 use Rattle.buckfleet_terms_files.specs.declared.fault.TermsFault.{TermsFault}

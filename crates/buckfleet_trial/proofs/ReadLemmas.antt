@@ -16,7 +16,7 @@ use Rattle.buckfleet_engine_files.specs.declared.fault.EngineFault.TheVariants.{
 use Rattle.buckfleet_engine_input.specs.declared.lists.Input.{Input}
 use Rattle.buckfleet_engine_input.specs.Harvest.{AreListsOf, AreNoSeats, HaveTooMany, IsFleetFault}
 use Rattle.buckfleet_engine_files.specs.Reading.{Says}
-use Rattle.buckfleet_engine_input.proofs.Lists.{accepted, too_many}
+use Rattle.buckfleet_engine_input.proofs.ListLemmas.{accepted, too_many}
 use Rattle.buckfleet_terms_files.specs.declared.fault.TermsFault.{TermsFault}
 use Rattle.buckfleet_terms_files.specs.declared.fault.TermsFault.TheVariants.{Run}
 use Rattle.buckfleet_terms_files.specs.Reading.{AnswersMore, IsTargetsFileFault}

@@ -13,7 +13,7 @@ use Rattle.buckfleet_engine_files.specs.declared.fault.EngineFault.TheVariants.{
 use Rattle.buckfleet_engine_files.specs.Reading.{Says}
 use Rattle.buckfleet_engine_input.specs.Harvest.{AreListsOf, AreNoSeats, IsFleetFault}
 use Rattle.buckfleet_engine_files.specs.Written.{AppendsSome, WritesText}
-use Rattle.buckfleet_engine_input.proofs.Lists.{accepted, too_many, fleet_fault}
+use Rattle.buckfleet_engine_input.proofs.ListLemmas.{accepted, too_many, fleet_fault}
 use Rattle.buckfleet_engine_files.proofs.Numbers.{says_with}
 use Rattle.buckfleet_engine_files.proofs.Runs.{no_answer}
 use Rattle.buckfleet_trial_sweep.proofs.Tables.{lines_mapped}

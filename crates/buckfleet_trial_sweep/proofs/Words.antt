@@ -14,4 +14,4 @@ pub use Rattle.buckfleet_trial_sweep.specs.Sweep.{AnswersSweep, IsLineOver, IsSw
 pub use Rattle.buckfleet_trial_sweep.specs.Runs.{IsRunLine}
 pub use Rattle.std.specs.Prelude.{slice_get}
 pub use Rattle.buck_page_figures.specs.Degrees.{AreDegreesBy}
-pub use Rattle.buckfleet_engine_input.proofs.Lists.{of_files}
+pub use Rattle.buckfleet_engine_input.proofs.ListLemmas.{of_files}

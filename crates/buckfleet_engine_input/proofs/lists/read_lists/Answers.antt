@@ -3,7 +3,7 @@ use Rattle.std.proofs.lemmas.List.{length-map}
 use Rattle.buck_stem.specs.file.Stm.{stm_of}
 use Rattle.buck_book_postings.specs.Replies.{stems_of}
 use Rattle.buckfleet_engine_files.specs.Reading.{Says}
-use Rattle.buckfleet_engine_input.proofs.Lists.{lists_more, memory_at, refused_at}
+use Rattle.buckfleet_engine_input.proofs.ListLemmas.{lists_more, memory_at, refused_at}
 use Rattle.buckfleet_engine_files.proofs.Lists.{same_place, same_rest}
 use Rattle.buckfleet_engine_input.proofs.lists.read_lists.Goals as goal
 

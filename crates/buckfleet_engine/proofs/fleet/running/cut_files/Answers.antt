@@ -1,6 +1,6 @@
 use Rattle.std.proofs.Common.{sym}
 use Rattle.std.proofs.lemmas.List.{length-map}
-use Rattle.buckfleet_engine_input.proofs.Lists.{cut_fault}
+use Rattle.buckfleet_engine_input.proofs.ListLemmas.{cut_fault}
 use Rattle.buckfleet_engine.proofs.fleet.running.cut_files.Goals as goal
 
 pub returns-clause-refused : goal.returns-clause-refused

@@ -3,7 +3,7 @@ use Rattle.buckfleet_engine.specs.declared.fleet.serving.Order.TheVariants.{AtOn
 use Rattle.buckfleet_engine_files.specs.Lent.{no_writer, of_writer}
 use Rattle.buckfleet_engine_files.proofs.Numbers.{own_reads}
 use Rattle.buckfleet_engine.proofs.Runs.{no_texts, texts_written}
-use Rattle.buckfleet_engine_input.proofs.Lists.{of_files}
+use Rattle.buckfleet_engine_input.proofs.ListLemmas.{of_files}
 use Rattle.buckfleet_engine.proofs.fleet.running.run_fleet_files.Goals as goal
 
 pub returns-in_err-closed-in-Some-clause-run : goal.returns-in_err-closed-in-Some-clause-run

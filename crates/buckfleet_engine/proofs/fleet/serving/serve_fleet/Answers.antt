@@ -7,7 +7,7 @@ use Rattle.buckfleet_engine_files.specs.Ruled.{FollowsRule}
 use Rattle.buckfleet_engine_files.proofs.Ruled.{follows_rule}
 use Rattle.buckfleet_engine.proofs.Runs.{no_texts, texts_written}
 use Rattle.buckfleet_engine.proofs.Served.{fleet_ran}
-use Rattle.buckfleet_engine_input.proofs.Lists.{of_files}
+use Rattle.buckfleet_engine_input.proofs.ListLemmas.{of_files}
 use Rattle.buckfleet_engine_files.proofs.Made.{made_so, nothing_made}
 use Rattle.buckfleet_engine.proofs.fleet.serving.serve_fleet.Goals as goal
 

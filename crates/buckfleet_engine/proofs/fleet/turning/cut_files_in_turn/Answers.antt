@@ -6,7 +6,7 @@ use Rattle.buck_stem.specs.declared.stem.Stem.{Stem}
 use Rattle.buck_fleet_round_robin.specs.Turn.{stems_in_all}
 use Rattle.buckfleet_engine_files.specs.declared.fault.EngineFault.TheVariants.{Full}
 use Rattle.std.proofs.lemmas.List.{length-map}
-use Rattle.buckfleet_engine_input.proofs.Lists.{cut_fault, too_many}
+use Rattle.buckfleet_engine_input.proofs.ListLemmas.{cut_fault, too_many}
 use Rattle.buckfleet_engine.proofs.fleet.turning.cut_files_in_turn.Goals as goal
 
 pub returns-clause-refused : goal.returns-clause-refused

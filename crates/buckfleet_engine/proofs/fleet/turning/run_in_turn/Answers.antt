@@ -5,7 +5,7 @@ use Rattle.buckfleet_engine.specs.declared.fleet.serving.Order.TheVariants.{InTu
 use Rattle.buckfleet_engine_files.specs.Lent.{no_writer, of_writer}
 use Rattle.buckfleet_engine_files.proofs.Numbers.{own_reads}
 use Rattle.buckfleet_engine.proofs.Runs.{no_texts, texts_written}
-use Rattle.buckfleet_engine_input.proofs.Lists.{of_files}
+use Rattle.buckfleet_engine_input.proofs.ListLemmas.{of_files}
 use Rattle.buckfleet_engine.proofs.fleet.turning.run_in_turn.Goals as goal
 
 pub returns-in_err-turned-in-None-clause-run : goal.returns-in_err-turned-in-None-clause-run
