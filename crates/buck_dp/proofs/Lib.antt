@@ -5,7 +5,7 @@ pub mod Logs
 pub mod Values
 pub mod OfferLemmas
 pub mod TopLemmas
-pub mod QuoteLemmas
+pub mod CandidateLemmas
 pub mod PricingLemmas
-pub mod MarketLemmas
-pub mod SiteLemmas
+pub mod CacheLemmas
+pub mod GridLemmas

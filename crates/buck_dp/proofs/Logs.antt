@@ -1,7 +1,7 @@
 -- Logs of a stem as bids of its takers, and the other way.
 use Rattle.buck_dp.proofs.Words.{whole_steps, List, ◌⊎◌, ◌≡◌, ℕ, ◌+◌, ◌-◌, ◌*◌, ◌/◌, ◌%◌, ◌<◌, ◌≤◌, refl, sym, ap, ◌∙◌, arith, rules, length, get_or_default, add-mul, mul-le-mul_right, mul-mod_left, div-mul-le_self, mul-add-div_right}
-use Rattle.buck_dp.proofs.Words.{le-div, cases_order, All-contains, IsCell, Cell, IsPart, IsRow, stem_length, diameter_at, Log, IsSheet, IsAllowed, top_of, trim_in, trim_of, worth_of, GroundParts, point_after, Offer, offer_of, offer_at}
-use Rattle.buck_dp.proofs.Words.{IsRank, HIGHEST_RANK, AreOffers, BidParts, bid_of, IsLogAt, log_at, next_after, IsTakersBid, Takers, HasTakers, allowed_low, IsLogBefore, cases_lt, lt-div-mul-add, div-le_of_le-mul}
+use Rattle.buck_dp.proofs.Words.{le-div, cases_order, All-contains, IsCell, Cell, ServesRange, IsRow, stem_length, diameter_at, Log, IsSheet, IsAllowed, top_of, trim_in, trim_of, worth_of, GroundParts, point_after, LogType, log_type}
+use Rattle.buck_dp.proofs.Words.{log_type_at, IsRank, HIGHEST_RANK, AreLogTypes, BidParts, bid_of, IsLogAt, log_at, next_after, IsTakersBid, AssortmentSet, HasTakers, allowed_low, IsLogBefore, cases_lt, lt-div-mul-add, div-le_of_le-mul}
 use Rattle.buck_dp.proofs.ListLemmas.{on_module, all_at, place_of}
 use Rattle.buck_dp.proofs.Lists.{end_within, same_log}
 
@@ -36,8 +36,8 @@ module _ (p : GroundParts) (valid : IsSheet p.sheet) where
   start_is rank i = refl
 
   -- of two logs from one point, the one of the higher rank is the other, or before it
-  pub ranks_before : AreOffers p.sheet.instruction p.menu.offers.items → (i high low : ℕ) → low ≤ high
-      → high ≤ HIGHEST_RANK → IsRank p.menu.offers.items low
+  pub ranks_before : AreLogTypes p.sheet.instruction p.types.list.items → (i high low : ℕ) → low ≤ high
+      → high ≤ HIGHEST_RANK → IsRank p.types.list.items low
       → (log_at p high i ≡ log_at p low i) ⊎ IsLogBefore (log_at p high i) (log_at p low i)
   unfolding log_at
   ranks_before are i high low le most rank =
@@ -54,7 +54,7 @@ module _ (p : GroundParts) (valid : IsSheet p.sheet) where
       ∙ mul-add-div_right pos j (trim_of p.sheet.instruction g + (unit - 1))
 
   -- each allowed log from a point is the one of a rank
-  pub log_there : (i : ℕ) (g : Log) → AreOffers p.sheet.instruction p.menu.offers.items → g.start ≡ i * unit
+  pub log_there : (i : ℕ) (g : Log) → AreLogTypes p.sheet.instruction p.types.list.items → g.start ≡ i * unit
       → IsAllowed p.sheet.instruction p.stem g
       → (j : ℕ) × (bid : BidParts) × IsLogAt p i j (next_after p g) bid × (log_at p bid.rank i ≡ g)
   unfolding log_at
@@ -64,12 +64,12 @@ module _ (p : GroundParts) (valid : IsSheet p.sheet) where
       let low = allowed_low p.sheet.instruction p.stem g valid.valid a in
       let some : 0 < n = one_step g.length unit (omega (arith, low.0)) on in
       let top : top_of g ≡ (i + n) * unit = omega (arith, at, whole_steps g.length unit on, add-mul i n unit) in
-      let o : Offer = offer_of g.length g.assortment in
+      let o : LogType = log_type g.length g.assortment in
       let found = (are.all o).1 (search rules) in
       let rank : ℕ = HIGHEST_RANK - found.0 in
       let place : HIGHEST_RANK - rank ≡ found.0 = omega (arith, found.1, are.few) in
-      let own : offer_at p.menu.offers.items rank ≡ o =
-      rw place (get_or_default p.menu.offers.items found.0 (offer_of 0 0) o found.1 ∙ found.2) in
+      let own : log_type_at p.types.list.items rank ≡ o =
+      rw place (get_or_default p.types.list.items found.0 (log_type 0 0) o found.1 ∙ found.2) in
       let same : log_at p rank i ≡ g = rw (own, ← at) refl in
       let in_stem = a.allows.within in (
         i + n,
@@ -88,12 +88,12 @@ module _ (p : GroundParts) (valid : IsSheet p.sheet) where
         same,
       )
 
-  module _ {t : ℕ} {takers : Takers} where
+  module _ {t : ℕ} {takers : AssortmentSet} where
     -- a log whose wood takers take is bid by one of them
     pub log_bid : {i e : ℕ} {bid : BidParts} → HasTakers p takers i t → (l : IsLogAt p i t e bid)
         → (t * unit + l.allowed.assortment.trim ≤ stem_length p.stem.samples)
         × (e ≡ t + point_after unit l.allowed.assortment.trim)
-        × IsTakersBid p.sheet p.menu.offers.items takers (diameter_at p.stem.samples (t * unit)) (t - i)
+        × IsTakersBid p.sheet p.types.list.items takers (diameter_at p.stem.samples (t * unit)) (t - i)
         l.allowed.assortment.trim bid
     unfolding log_at worth_of
     log_bid {i} {e} {bid} has l =
@@ -119,14 +119,14 @@ module _ (p : GroundParts) (valid : IsSheet p.sheet) where
     -- a taker's bid that fits is that of a log from each start in the wood that it takes
     pub bid_log : {i k steps trim : ℕ} {bid : BidParts} → HasTakers p takers i t → i ≤ k → k + steps ≡ t
         → t * unit + trim ≤ stem_length p.stem.samples
-        → IsTakersBid p.sheet p.menu.offers.items takers (diameter_at p.stem.samples (t * unit)) steps trim bid
+        → IsTakersBid p.sheet p.types.list.items takers (diameter_at p.stem.samples (t * unit)) steps trim bid
         → IsLogAt p k t (t + point_after unit trim) bid
     unfolding log_at worth_of
     bid_log {i} {k} {steps} {trim} {bid} has le is fits b =
         let g : Log = log_at p bid.rank k in
         let start : i * unit ≤ k * unit = mul-le-mul_right unit le in
         let top : top_of g ≡ t * unit = omega (arith, b.length, ap (λ n. n * unit) is, add-mul k steps unit) in
-        let takes = (has (offer_at p.menu.offers.items bid.rank).assortment b.assortment b.exists).0 b.taker in
+        let takes = (has (log_type_at p.types.list.items bid.rank).assortment b.assortment b.exists).0 b.taker in
         let allowed : IsAllowed p.sheet.instruction p.stem g = record {
           assortment = b.assortment;
           exists = b.exists;
@@ -154,13 +154,13 @@ module _ (p : GroundParts) (valid : IsSheet p.sheet) where
         }
 
   -- a row is right for the starts in the wood of its takers
-  pub row_part : {t first stop far : ℕ} {takers : Takers} {row : List Cell}
+  pub row_serves : {t first stop far : ℕ} {takers : AssortmentSet} {row : List Cell}
       → ((i : ℕ) → first ≤ i → i < stop → HasTakers p takers i t)
-      → IsRow p.sheet p.menu.offers.items takers (diameter_at p.stem.samples (t * unit)) far row
-      → IsPart p t first stop row
-  row_part {t} {first} {stop} {far} {takers} {row} here drawn =
+      → IsRow p.sheet p.types.list.items takers (diameter_at p.stem.samples (t * unit)) far row
+      → ServesRange p t first stop row
+  row_serves {t} {first} {stop} {far} {takers} {row} here drawn =
       let is_cell : Cell → Type 0 =
-      λ c. IsCell p.sheet p.menu.offers.items takers (diameter_at p.stem.samples (t * unit)) far c in
+      λ c. IsCell p.sheet p.types.list.items takers (diameter_at p.stem.samples (t * unit)) far c in
       record {
         real = λ k c at fits i start low high le e.
             let cell = all_at is_cell row drawn.real k c at in

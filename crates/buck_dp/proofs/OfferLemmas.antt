@@ -63,10 +63,10 @@ can_behind front can = search (rules, length-append, get_or-append-add)
 
 module _ {p : GroundParts} {ch : List ℕ} {t first stop : ℕ} {cells : List Cell} {v : List BidParts}
     (is : AreOffered p ch t first stop cells 0 v) where
-  -- the cells of a part are chosen by their steps and the room behind the top
-  pub part_chosen : {room : ℕ} → room + t * p.sheet.instruction.«module» ≡ stem_length p.stem.samples
+  -- the cells of a range are chosen by their steps and the room behind the top
+  pub range_chosen : {room : ℕ} → room + t * p.sheet.instruction.«module» ≡ stem_length p.stem.samples
       → AreChosen p t first stop (t - stop + 1) (t - first + 1) room cells
-  part_chosen behind k c at = grind (arith, is.order, is.search.below)
+  range_chosen behind k c at = grind (arith, is.order, is.search.below)
 
   -- if all fit and start before the top, by their steps alone
   pub all_chosen : {far : ℕ} → AllFit p far t cells → stop ≡ t
@@ -79,7 +79,7 @@ module _ {p : GroundParts} {ch : List ℕ} {t first stop : ℕ} {cells : List Ce
   pub cell_fits : {i e : ℕ} → IsNear p t first stop c → i + c.steps ≡ t → e ≡ t + c.rise → CanOffer i e c.bid v
   cell_fits {i = i} {e = e} near is after =
       let log : IsLogAt p i t e c.bid =
-      rw after (was.part.real n c there near.2 i i (omega (arith, near.0)) (omega (arith, near.1)) (omega arith) is) in
+      rw after (was.range.real n c there near.2 i i (omega (arith, near.0)) (omega (arith, near.1)) (omega arith) is) in
       let now = was.search in
       record {
         inside = omega (arith, log.last, now.number);
@@ -97,10 +97,10 @@ module _ {p : GroundParts} {ch : List ℕ} {t first stop : ℕ} {cells : List Ce
       → i + c.steps ≡ t → e ≡ t + c.rise → IsOffered i e c.bid v w → AreOffered p ch t first stop cells (n + 1) w
   offered_more {i = i} {e = e} {w = w} near is after offered =
       let log : IsLogAt p i t e c.bid =
-      rw after (was.part.real n c there near.2 i i (omega (arith, near.0)) (omega (arith, near.1)) (omega arith) is) in
+      rw after (was.range.real n c there near.2 i i (omega (arith, near.0)) (omega (arith, near.1)) (omega arith) is) in
       record {
         search = still_searched was.search log offered;
-        part = was.part;
+        range = was.range;
         order = was.order;
         done = λ k d lt at close j sum.
             rw (stays was.search log offered (t + d.rise) (omega arith))
@@ -115,16 +115,16 @@ module _ {p : GroundParts} {ch : List ℕ} {t first stop : ℕ} {cells : List Ce
       }
 
 module _ {p : GroundParts} {v : List BidParts} {ch : List ℕ} {t stop : ℕ} (was : IsSearch p v ch t stop) where
-  -- once the logs that start in one part more are offered, a search goes on before that
+  -- once the logs that start in one range more are offered, a search goes on before that
   pub searched_to : {first : ℕ} → first ≤ stop
       → ((i e : ℕ) (bid : BidParts) → first ≤ i → i < stop → IsLogAt p i t e bid → Reaches v i (plus bid (bid_at v e)))
       → IsSearch p v ch t first
-  searched_to {first} order part =
+  searched_to {first} order range =
       let each : (i j e : ℕ) (bid : BidParts) → i < t → t ≤ j → (t < j) ⊎ (first ≤ i) → IsLogAt p i j e bid
       → Reaches v i (plus bid (bid_at v e)) =
       (λ i j e bid lt le which log. elim (cases_order t j) [
         | inl here ↦ elim (cases_lt i stop) [
-          | inl new ↦ part i e bid (grind arith) new (rw here log)
+          | inl new ↦ range i e bid (grind arith) new (rw here log)
           | inr done ↦ was.each i j e bid lt le (inr done) log
         ]
         | inr far ↦ was.each i j e bid lt le (inl (grind arith)) log
@@ -137,15 +137,15 @@ module _ {p : GroundParts} {v : List BidParts} {ch : List ℕ} {t stop : ℕ} (w
 
 module _ {p : GroundParts} {ch : List ℕ} {t first stop n : ℕ} {cells : List Cell} {v : List BidParts}
     (was : AreOffered p ch t first stop cells n v) (all : length cells ≤ n) where
-  -- a log of the part reaches the values
+  -- a log of the range reaches the values
   reached : (i e : ℕ) (bid : BidParts) → first ≤ i → i < stop → IsLogAt p i t e bid
       → Reaches v i (plus bid (bid_at v e))
   reached i e bid low lt log =
-      let s = was.part.served i e bid low lt log in
+      let s = was.range.served i e bid low lt log in
       let start : ℕ = t - s.1.steps in
       let is : start + s.1.steps ≡ t = omega (arith, s.4, log.later) in
       let le : i ≤ start = omega (arith, s.4, log.later) in
-      let own = was.part.real s.0 s.1 s.2 s.3 i start low lt le is in
+      let own = was.range.real s.0 s.1 s.2 s.3 i start low lt le is in
       let less = (was.search.settled (t + s.1.rise) own.order).falls e s.5 in
       let at : Reaches v start (plus s.1.bid (bid_at v (t + s.1.rise))) =
       elim (cases_lt start stop) [
@@ -164,6 +164,6 @@ module _ {p : GroundParts} {ch : List ℕ} {t first stop n : ℕ} {cells : List 
         ]
       ]
 
-  -- once all cells of a part are offered, all its logs are
-  pub offered_part : IsSearch p v ch t first
-  offered_part = searched_to was.search was.order reached
+  -- once all cells of a range are offered, all its logs are
+  pub offered_range : IsSearch p v ch t first
+  offered_range = searched_to was.search was.order reached

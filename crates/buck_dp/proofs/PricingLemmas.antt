@@ -1,8 +1,9 @@
--- The quote of an offer.
+-- The candidate of a log type.
 use Rattle.buck_apt.specs.Instruction.{classes_of}
-use Rattle.buck_dp.proofs.Words.{whole_steps, ◌↔◌, Contains-get_or, mul-div_left, quote_bid, quote_at, IsOfferOf, ◌≡◌, ℕ, ◌+◌, ◌-◌, ◌/◌, ◌%◌, ◌<◌, ◌≤◌, ◌⊎◌, inl, inr, suc, List, [], ◌∷◌, ◌++◌, Contains, length, get_or, slice_get, Some}
-use Rattle.buck_dp.proofs.Words.{refl, sym, subst, ap, ◌∙◌, arith, cases_lt, unwrap_or, nat_le, nat_tests, same_Some, All-contains, AssortmentParts, InstructionParts, sum_by-le, IsInstruction, IsAssortment, IsWithin, classes, sheet_of}
-use Rattle.buck_dp.proofs.Words.{price-le, mul-le-mul, last_position, row_at, Offer, offer_of, offer_at, HIGHEST_RANK, AreOffers, IsBand, IsBought, IsPriced, IsClassAt, HasNoPrice, point_after, Term, IsTaker, IsTerm, AreTerms}
+use Rattle.buck_dp.proofs.Words.{whole_steps, ◌↔◌, Contains-get_or, mul-div_left, candidate_bid, candidate_at, IsLogTypeOf, ◌≡◌, ℕ, ◌+◌, ◌-◌, ◌/◌, ◌%◌, ◌<◌, ◌≤◌, ◌⊎◌, inl, inr, suc, List, [], ◌∷◌, ◌++◌, Contains, length, get_or, slice_get}
+use Rattle.buck_dp.proofs.Words.{Some, refl, sym, subst, ap, ◌∙◌, arith, cases_lt, unwrap_or, nat_le, nat_tests, same_Some, All-contains, AssortmentParts, InstructionParts, sum_by-le, IsInstruction, IsAssortment, IsWithin, classes}
+use Rattle.buck_dp.proofs.Words.{sheet_of, price-le, mul-le-mul, last_position, row_at, LogType, log_type, log_type_at, HIGHEST_RANK, AreLogTypes, IsBand, IsBought, IsPriced, IsClassAt, HasNoPrice, point_after, Term, IsTaker, IsTerm}
+use Rattle.buck_dp.proofs.Words.{AreTerms}
 use Rattle.buck_dp.specs.declared.pricing.Band.{Band}
 use Rattle.buck_dp.proofs.Words.{nat_cmp, false, ◌*◌, All, length-append, get_or_default, slice_get_within, IsNoLater, IsPermutation, IsSorted, All-weaker, All-push, Contains-push, Contains-append_left, Ordering}
 use Rattle.buck_dp.proofs.ListLemmas.{on_module, has_at}
@@ -43,10 +44,10 @@ bought_still {x} {low} valid band d from lt = (
   }),
 )
 
--- the offer at a place is a length of an assortment
-pub offer_real : {i : InstructionParts} {offers : List Offer} {place : ℕ} → AreOffers i offers → place < length offers
-    → IsOfferOf i (get_or offers place (offer_of 0 0))
-offer_real {i} {offers} {place} are lt = (are.all _).0 (Contains-get_or offers place (offer_of 0 0) lt)
+-- the log type at a place is a length of an assortment
+pub log_type_real : {i : InstructionParts} {types : List LogType} {place : ℕ} → AreLogTypes i types
+    → place < length types → IsLogTypeOf i (get_or types place (log_type 0 0))
+log_type_real {i} {types} {place} are lt = (are.all _).0 (Contains-get_or types place (log_type 0 0) lt)
 
 -- an instruction has few classes
 pub classes_few : (i : InstructionParts) → IsInstruction i → classes i ≤ 16384
@@ -55,22 +56,23 @@ classes_few i valid =
     valid.assortments_valid in
     omega (arith, sum_by-le classes_of 1024 i.assortments each, valid.assortments_number)
 
-module _ {i : InstructionParts} {offers : List Offer} {band : Band} {place : ℕ} {terms : List Term}
-    (are : AreOffers i offers) (lt : place < length offers) (were : AreTerms i offers band place terms) where
-  abbrev o : Offer
-  o = get_or offers place (offer_of 0 0)
+module _ {i : InstructionParts} {types : List LogType} {band : Band} {place : ℕ} {terms : List Term}
+    (are : AreLogTypes i types) (lt : place < length types) (were : AreTerms i types band place terms) where
+  abbrev o : LogType
+  o = get_or types place (log_type 0 0)
 
-  -- the offer of the rank of the place
-  own : (rank : ℕ) → rank + place ≡ HIGHEST_RANK → offer_at offers rank ≡ o
-  own rank sum = ap (λ n. get_or offers n (offer_of 0 0)) (omega arith)
+  -- the log type of the rank of the place
+  own : (rank : ℕ) → rank + place ≡ HIGHEST_RANK → log_type_at types rank ≡ o
+  own rank sum = ap (λ n. get_or types n (log_type 0 0)) (omega arith)
 
   -- nobody bids for its logs: the terms stay
   pub none_put : (x : AssortmentParts) → slice_get i.assortments o.assortment ≡ Some x → HasNoPrice x o band
-      → AreTerms i offers band (place + 1) terms
+      → AreTerms i types band (place + 1) terms
   none_put x exists none = record {
     real = were.real;
-    met = λ version prices valid takers steps trim d bid asked past b.
-        grind (arith, (were.met version prices valid takers steps trim d bid asked), (own bid.rank), b, same_Some, none);
+    met = λ version prices valid takers steps trim d bid in_band past b.
+        let before = were.met version prices valid takers steps trim d bid in_band in
+        grind (arith, before, (own bid.rank), b, same_Some, none);
   }
 
   -- its term is put behind the others
@@ -88,12 +90,12 @@ module _ {i : InstructionParts} {offers : List Offer} {band : Band} {place : ℕ
       rise = point_after i.«module» x.trim;
     }
 
-    term_is : IsTerm i offers band term
+    term_is : IsTerm i types band term
     term_is = record {
       class = is.within;
       few = few;
-      quote = λ version prices valid takers taker.
-          let real = offer_real are lt in
+      candidate = λ version prices valid takers taker.
+          let real = log_type_real are lt in
           let offered = rw (same_Some real.0 x (sym real.1 ∙ exists)) at real.2 in
           let on : o.length % i.«module» ≡ 0 = on_module i o.assortment x o.length valid.valid exists offered in
           let range : IsWithin 500 30000 o.length = search (arith, All-contains, has_at, valid.valid, exists, offered)
@@ -103,27 +105,27 @@ module _ {i : InstructionParts} {offers : List Offer} {band : Band} {place : ℕ
             small =
                 record { length = range.1; price = price-le (sheet_of version i prices) k valid; rank = omega arith };
             rise = refl;
-            bids = λ d asked. record {
+            bids = λ d in_band. record {
               rank = (omega arith, omega (arith, are.few));
-              taker = subst (λ (b : Offer). IsTaker takers b.assortment) (sym e) taker;
+              taker = subst (λ (b : LogType). IsTaker takers b.assortment) (sym e) taker;
               assortment = x;
               exists = rw e exists;
-              priced = subst (λ (b : Offer). IsPriced x b d) (sym e) (is.priced d asked);
+              priced = subst (λ (b : LogType). IsPriced x b d) (sym e) (is.priced d in_band);
               length = rw e (sym (whole_steps o.length i.«module» on));
               some = one_step o.length i.«module» (omega (arith, range.0)) on;
               own = refl;
-              worth = rw (e, is.index d asked) refl;
+              worth = rw (e, is.index d in_band) refl;
             };
           };
     }
 
-    pub term_put : AreTerms i offers band (place + 1) (terms ++ term ∷ [])
+    pub term_put : AreTerms i types band (place + 1) (terms ++ term ∷ [])
     term_put = record {
-      real = All-push (λ t. IsTerm i offers band t) terms term were.real term_is;
-      met = λ version prices valid takers steps trim d bid asked past b. elim
+      real = All-push (λ t. IsTerm i types band t) terms term were.real term_is;
+      met = λ version prices valid takers steps trim d bid in_band past b. elim
           (cases_lt HIGHEST_RANK (bid.rank + place)) [
             | inl before ↦
-                let m = were.met version prices valid takers steps trim d bid asked before b in
+                let m = were.met version prices valid takers steps trim d bid in_band before b in
                 (m.0, Contains-append_left terms (term ∷ []) m.0 m.1, m.2, m.3, m.4, m.5)
             | inr now ↦
                 let e = own bid.rank (omega arith) in
@@ -134,55 +136,55 @@ module _ {i : InstructionParts} {offers : List Offer} {band : Band} {place : ℕ
                   ap (λ n. n / i.«module») (rw e at b.length)
                       ∙ mul-div_left steps (omega (arith, valid.valid.module_range)),
                   rw same at b.own,
-                  same_bid (quote_bid (quote_at prices term) d) bid
-                      (sym (b.worth ∙ rw (e, same, is.index d asked) refl)) (omega arith),
+                  same_bid (candidate_bid (candidate_at prices term) d) bid
+                      (sym (b.worth ∙ rw (e, same, is.index d in_band) refl)) (omega arith),
                 )
           ];
     }
 
--- a list has the offers of the first n assortments, and of the next one those of its first k lengths
-pub record HasOffers (i : InstructionParts) (n k : ℕ) (offers : List Offer) : Type 0 where
-  pub few : length offers ≤ 32 * n + k
-  pub real : All (λ o. IsOfferOf i o) offers
+-- a list has the log types of the first n assortments, and of the next one those of its first k lengths
+pub record HasTypesTo (i : InstructionParts) (n k : ℕ) (types : List LogType) : Type 0 where
+  pub few : length types ≤ 32 * n + k
+  pub real : All (λ o. IsLogTypeOf i o) types
   pub whole : (a j l : ℕ) (x : AssortmentParts) → slice_get i.assortments a ≡ Some x → j < length x.lengths
-      → get_or x.lengths j l ≡ l → (a < n) ⊎ ((a ≡ n) × (j < k)) → Contains offers (offer_of l a)
+      → get_or x.lengths j l ≡ l → (a < n) ⊎ ((a ≡ n) × (j < k)) → Contains types (log_type l a)
 
 -- one length more
-pub more_offers : {i : InstructionParts} {n k l : ℕ} {x : AssortmentParts} {offers : List Offer}
-    → slice_get i.assortments n ≡ Some x → k < length x.lengths → l ≡ get_or x.lengths k 0 → HasOffers i n k offers
-    → HasOffers i n (k + 1) (offers ++ offer_of l n ∷ [])
-more_offers {i} {n} {k} {l} {x} {offers} at lt is was =
+pub more_types : {i : InstructionParts} {n k l : ℕ} {x : AssortmentParts} {types : List LogType}
+    → slice_get i.assortments n ≡ Some x → k < length x.lengths → l ≡ get_or x.lengths k 0 → HasTypesTo i n k types
+    → HasTypesTo i n (k + 1) (types ++ log_type l n ∷ [])
+more_types {i} {n} {k} {l} {x} {types} at lt is was =
     let own : Contains x.lengths l = (k, lt, get_or_default x.lengths k l 0 lt ∙ sym is) in
-    let o : Offer = offer_of l n in
+    let o : LogType = log_type l n in
     record {
-      few = omega (arith, was.few, length-append offers (o ∷ []));
-      real = All-push (λ o. IsOfferOf i o) offers o was.real (x, at, own);
+      few = omega (arith, was.few, length-append types (o ∷ []));
+      real = All-push (λ o. IsLogTypeOf i o) types o was.real (x, at, own);
       whole = λ a j m y there inside has which.
           let old = was.whole a j m y there inside has in
-          grind (arith, cases_lt, which, get_or_default, Contains-push offers o, old, Contains-append_left);
+          grind (arith, cases_lt, which, get_or_default, Contains-push types o, old, Contains-append_left);
     }
 
 -- by length, and then by assortment
-abbrev offer_cmp : Offer → Offer → Ordering
-offer_cmp a b = ordering_then (nat_cmp a.length b.length) (nat_cmp a.assortment b.assortment)
+abbrev log_type_cmp : LogType → LogType → Ordering
+log_type_cmp a b = ordering_then (nat_cmp a.length b.length) (nat_cmp a.assortment b.assortment)
 
--- what isn't before another offer is no earlier
-no_later : (a b : Offer) → is_lt (offer_cmp b a) ≡ false → IsNoLater a b
+-- what isn't before another log type is no earlier
+no_later : (a b : LogType) → is_lt (log_type_cmp b a) ≡ false → IsNoLater a b
 no_later a b not = grind (arith, ranks)
 
--- the offers of all assortments, once they are sorted
-pub offers_sorted : (i : InstructionParts) (n : ℕ) (found offers : List Offer) → length i.assortments ≤ n → n ≤ 16
-    → HasOffers i n 0 found → IsPermutation found offers → IsSorted offer_cmp offers → AreOffers i offers
-offers_sorted i n found offers whole few has moved sorted = record {
-  few = omega (arith, has.few, length_permutation found offers moved);
+-- the log types of all assortments, once they are sorted
+pub types_sorted : (i : InstructionParts) (n : ℕ) (found types : List LogType) → length i.assortments ≤ n → n ≤ 16
+    → HasTypesTo i n 0 found → IsPermutation found types → IsSorted log_type_cmp types → AreLogTypes i types
+types_sorted i n found types whole few has moved sorted = record {
+  few = omega (arith, has.few, length_permutation found types moved);
   all = λ o. (
-    λ there. All-contains (IsOfferOf i) offers o (All-permutation (IsOfferOf i) found offers moved has.real) there,
-    λ is. Contains-permutation found offers o moved
+    λ there. All-contains (IsLogTypeOf i) types o (All-permutation (IsLogTypeOf i) found types moved has.real) there,
+    λ is. Contains-permutation found types o moved
         (has.whole o.assortment is.2.0 o.length is.0 is.1 is.2.1 is.2.2
         (inl (omega (arith, slice_get_within i.assortments o.assortment is.0 is.1)))),
   );
   order = λ j k le lt.
-      let long = on_total (λ (o : Offer). o.length) nat_cmp_total in
+      let long = on_total (λ (o : LogType). o.length) nat_cmp_total in
       let total = then_total long (on_total (λ o. o.assortment) nat_cmp_total) in
-      no_later _ _ (sorted_far _ (ranks_by total (λ o. o)) offers sorted j k (offer_of 0 0) le lt);
+      no_later _ _ (sorted_far _ (ranks_by total (λ o. o)) types sorted j k (log_type 0 0) le lt);
 }

@@ -1,6 +1,6 @@
 -- Searched values bound what may be cut from each point on, and the choices lead to the first of the best.
 use Rattle.buck_dp.proofs.Words.{whole_steps, ◌≡◌, ℕ, ◌+◌, ◌*◌, ◌/◌, ◌<◌, ◌≤◌, ◌⊎◌, inl, inr, List, [], ◌∷◌, ◌++◌, append-nil, get_or, sym, ◌∙◌, ap, arith, add-mul, le-div, mul-le-mul_right, rules, cases_lt, refl, get_or_past, sum_by-cons}
-use Rattle.buck_dp.proofs.Words.{zero-mul, Log, IsAllowed, cutting_worth, worth_of, end_of, AreOffers, IsFirstBest, IsAdmissible, IsLogBefore, IsBefore, GroundParts, points_of, ends_of, BidParts, bid_of, none, IsLogAt, bid_at, IsSearch}
+use Rattle.buck_dp.proofs.Words.{zero-mul, Log, IsAllowed, cutting_worth, worth_of, end_of, AreLogTypes, IsFirstBest, IsAdmissible, IsLogBefore, IsBefore, GroundParts, points_of, ends_of, BidParts, bid_of, none, IsLogAt, bid_at, IsSearch}
 use Rattle.buck_dp.proofs.Words.{log_at, next_after, IsCutFrom}
 use Rattle.buck_dp.proofs.Lists.{end_within}
 use Rattle.buck_dp.proofs.Logs.{log_there, ranks_before, start_is, after_first}
@@ -26,7 +26,7 @@ pub record IsBestAt (p : GroundParts) (v : List BidParts) (i : ℕ) (gs : List L
       → (gs ≡ hs) ⊎ IsBefore gs hs
 
 module _ {p : GroundParts} {v : List BidParts} {ch : List ℕ}
-    (offers : AreOffers p.sheet.instruction p.menu.offers.items) (was : IsSearch p v ch 0 0) where
+    (types : AreLogTypes p.sheet.instruction p.types.list.items) (was : IsSearch p v ch 0 0) where
   abbrev unit : ℕ
   unit = p.sheet.instruction.«module»
 
@@ -46,7 +46,7 @@ module _ {p : GroundParts} {v : List BidParts} {ch : List ℕ}
   bounded i [] c = omega arith
   bounded i (h ∷ hs) c =
       let k : ℕ = h.start / unit in
-      let l = log_there p was.valid k h offers (sym (whole_steps h.start unit c.1.allows.on_module)) c.1 in
+      let l = log_there p was.valid k h types (sym (whole_steps h.start unit c.1.allows.on_module)) c.1 in
       let most = bounded (next_after p h) hs (cut_after h hs c.2) in
       let falls = (was.settled i (omega arith)).falls k (le-div i h.start unit pos c.0) in
       let each = (was.settled k (omega arith)).each l.0 (next_after p h) l.1 l.2 in
@@ -69,15 +69,15 @@ module _ {p : GroundParts} {v : List BidParts} {ch : List ℕ}
         | inl more ↦ inl (rw (← at) (mul-le-mul_right unit (omega arith)), c.1, c.2)
         | inr less ↦
             let here : k ≡ i = omega (arith, le-div i h.start unit pos c.0) in
-            let (k, more, l, same) = log_there p was.valid i h offers (sym at ∙ ap (λ n. n * unit) here) c.1 in
+            let (k, more, l, same) = log_there p was.valid i h types (sym at ∙ ap (λ n. n * unit) here) c.1 in
             let most = bounded (next_after p h) hs (cut_after h hs c.2) in
             let each = (was.settled i (omega arith)).each k (next_after p h) more l in
             let sum = sum_by-cons (worth_of p.sheet p.stem) h hs in
             let tied : (more.rank ≤ get_or ch i 0) × (worth p hs ≡ (bid_at v (next_after p h)).worth) =
             grind (arith, most, each, sum, l.worth, same) in
-            let some : 0 < get_or ch i 0 = omega (arith, tied.0, offers.few, l.rank) in
+            let some : 0 < get_or ch i 0 = omega (arith, tied.0, types.few, l.rank) in
             let (j, e, w, m, value) = chosen i some in
-            let first = ranks_before p was.valid offers i (get_or ch i 0) more.rank tied.0 m.rank.0 l.rank in
+            let first = ranks_before p was.valid types i (get_or ch i 0) more.rank tied.0 m.rank.0 l.rank in
             inr (some, elim (rw same at first) [ inl one ↦ inr (one, tied.1) | inr less ↦ inl less ])
       ]
 

@@ -2,8 +2,8 @@
 pub use Rattle.std.proofs.Common.{◌≡◌, ◌≤◌, inl, inr, refl, sym, ◌∙◌, subst, ap, arith, ℕ, ◌+◌, ◌*◌, List, ◌≢◌, ◌-◌, ◌<◌, ◌⊎◌, [], ◌∷◌, ◌++◌, take, length, length-append, slice_get, Some, All, ◌/◌, ◌%◌, slice_index, get_or, false}
 pub use Rattle.std.proofs.Common.{zero, suc, Contains, rules, sum_by, drop, add-mul, mul-le-mul_right, mul-le-mul_left, slice_set, append_assoc, drop-cons, add-one, ◌↔◌, vec_len, vec_capacity, w16, map, nat_cmp, unwrap_or, nat_le, min}
 pub use Rattle.std.proofs.Common.{IsPermutation, IsSorted, Ordering}
-pub use Rattle.buck_dp.specs.inner.Words.{InstructionParts, AssortmentParts, classes, SheetParts, IsSheet, sheet_of, volume, HIGHEST_RANK, StemParts, IsStem, stem_length, Log, IsAllowed, IsBought, end_of, top_of, row_at, Cell, Head, Menu}
-pub use Rattle.buck_dp.specs.inner.Words.{PriceList, Takers, Quote, Term, Ask, IsMaskBetween, bit_at, Offer}
+pub use Rattle.buck_dp.specs.inner.Words.{InstructionParts, AssortmentParts, classes, SheetParts, IsSheet, sheet_of, volume, HIGHEST_RANK, StemParts, IsStem, stem_length, Log, IsAllowed, IsBought, end_of, top_of, row_at, Cell, RowEntry}
+pub use Rattle.buck_dp.specs.inner.Words.{LogTypes, CandidateList, AssortmentSet, Candidate, Term, ListKey, IsMaskBetween, bit_at, LogType}
 pub use Rattle.buck_apt.specs.Instruction.{IsInstruction, IsAssortment, IsWithin}
 pub use Rattle.std.proofs.lemmas.Bool.{cases_lt, cases_order, cases_eq, ne_eqb}
 pub use Rattle.std.proofs.lemmas.Option.{same_Some, none-some, slice_get-get_or, slice_get_within, get_or_from_slice_get, slice_get_read}
@@ -15,12 +15,12 @@ pub use Rattle.buck_stem.specs.Stem.{diameter_at, grade_at, HasGrade}
 pub use Rattle.buck_value.specs.Allowed.{trim_in, trim_of, last_position}
 pub use Rattle.buck_value.proofs.Rates.{worth_low}
 pub use Rattle.buck_dp.specs.Cutting.{IsCutFrom}
-pub use Rattle.buck_dp.specs.inner.Searched.{AllFit, AreChosen, IsNear, IsPart, IsSettled, Reaches, IsMade, IsSearch, CanOffer, IsOffered, AreOffered}
-pub use Rattle.buck_dp.specs.inner.Quotes.{IsTakersBid, IsSmall, quote_bid, IsAsked, IsQuote, AreTerms, AreQuotes, IsLed, IsLeading, cell_of, row_of, IsCell, IsRow, IsPriced, IsClassAt, HasNoPrice, quote_at, IsCovered, IsLeader, IsNext}
-pub use Rattle.buck_dp.specs.inner.Quotes.{IsTied, IsPruned, IsTerm}
-pub use Rattle.buck_dp.specs.inner.Logs.{bid_at, IsLogAt, HasTakers, HasNoneOf, next_after, GroundParts, points_of, ends_of, point_after, IsTaker, AreTakersOf, AreKnown}
+pub use Rattle.buck_dp.specs.inner.Searched.{AllFit, AreChosen, IsNear, ServesRange, IsSettled, Reaches, IsMade, IsSearch, CanOffer, IsOffered, AreOffered}
+pub use Rattle.buck_dp.specs.inner.Candidates.{IsTakersBid, IsSmall, candidate_bid, IsInBand, IsCandidate, AreTerms, AreCandidates, IsLed, IsLeading, cell_of, row_of, IsCell, IsRow, IsPriced, IsClassAt, HasNoPrice, candidate_at, IsCovered}
+pub use Rattle.buck_dp.specs.inner.Candidates.{IsLeader, IsNext, IsTied, IsPruned, IsTerm}
+pub use Rattle.buck_dp.specs.inner.Logs.{bid_at, IsLogAt, HasTakers, HasNoneOf, next_after, GroundParts, points_of, ends_of, point_after, IsTaker, AreTakersOf, AreWoodEntries}
 unfoldable pub use Rattle.buck_dp.specs.inner.Logs.{log_at}
-pub use Rattle.buck_dp.specs.inner.Market.{MarketParts, AllAre, IsAt, Stands, IsRowAt, IsListAt, HasTerms, HasQuotes, IsMarket}
+pub use Rattle.buck_dp.specs.inner.SheetCache.{CacheParts, AllAre, IsAt, Stands, IsRowAt, IsListAt, HasTerms, HasCandidates, IsCache}
 pub use Rattle.std.proofs.lemmas.List.Sums.{sum_by-cons, sum_by_more, sum_by-le}
 pub use Rattle.buck_value.proofs.Classes.{allowed_low, column_some, column_is, whole_steps}
 pub use Rattle.buck_dp.specs.Order.{IsLogBefore, IsBefore}
@@ -30,9 +30,9 @@ pub use Rattle.buck_value.proofs.Prices.{price-le}
 pub use Rattle.buck_stem.specs.points.Profile.{IsMask}
 pub use Rattle.buck_stem.proofs.Tables.{grade_at_is}
 pub use Rattle.buck_value.proofs.Grades.{mask_allows}
-pub use Rattle.buck_dp.specs.inner.Site.{IsSite, IsPartTo, AreParts, HaveParts, IsEven, IsNearest, IsMarketOf, IsPlan}
-pub use Rattle.buck_dp.specs.declared.planning.Site.{Site}
-pub use Rattle.buck_dp.specs.declared.planning.Part.{Part}
+pub use Rattle.buck_dp.specs.inner.StemGrid.{IsGrid, IsRangeTo, AreRanges, HaveRanges, IsEven, IsNearest, IsCacheOf, IsPlan}
+pub use Rattle.buck_dp.specs.declared.planning.StemGrid.{StemGrid}
+pub use Rattle.buck_dp.specs.declared.planning.StartRange.{StartRange}
 pub use Rattle.buck_value.specs.Untrimmed.{HasNoTrim, IsAllowedUntrimmed}
 pub use Rattle.buck_value.proofs.Untrimmed.{no_trim, without_trim, with_trim}
 pub use Rattle.std.proofs.lemmas.Grind.{common_steps}
@@ -40,5 +40,5 @@ pub use Rattle.buck_value.proofs.Stands.{stands}
 pub use Rattle.std.proofs.lemmas.Nat.Bits.{bit_at_set_same, bit_at_set_other}
 pub use Rattle.std.proofs.lemmas.List.Elements.{Contains-get_or, All-map, All-contains, All-cons, Contains-push_cases, Contains-push, Contains-append_left, All-weaker, All-push}
 pub use Rattle.std.proofs.lemmas.Bool.Decides.{nat_tests}
-pub use Rattle.buck_dp.specs.inner.Offers.{IsMenu, offer_of, IsOfferOf, offer_at, IsRank, IsNoLater, AreOffers, IsBand}
+pub use Rattle.buck_dp.specs.inner.LogTypes.{HasLogTypes, log_type, IsLogTypeOf, log_type_at, IsRank, IsNoLater, AreLogTypes, IsBand}
 unfoldable pub use Rattle.buck_value.specs.Allowed.{worth_of}

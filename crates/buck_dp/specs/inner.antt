@@ -1,9 +1,9 @@
 -- What the crate's own functions show one another.
 pub mod Words
-pub mod Offers
+pub mod LogTypes
 pub mod Bid
 pub mod Logs
 pub mod Searched
-pub mod Quotes
-pub mod Market
-pub mod Site
+pub mod Candidates
+pub mod SheetCache
+pub mod StemGrid

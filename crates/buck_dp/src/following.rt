@@ -1,33 +1,33 @@
 //! The choices of a stem's points, followed from the butt: the logs of the best cutting.
 ghost use Rattle.std.specs.Prelude.{◌≡◌, ◌-◌, ◌*◌, ◌<◌, ◌≤◌, IfOk, length};
 ghost use Rattle.buck_value.specs.Sheet.{IsSheet};
-ghost use Rattle.buck_dp.specs.inner.Offers.{IsRank};
+ghost use Rattle.buck_dp.specs.inner.LogTypes.{IsRank};
 ghost use Rattle.buck_dp.specs.Best.{IsFirstBest, cutting_worth};
 ghost use Rattle.buck_dp.specs.inner.Logs.{GroundParts, log_at};
-ghost use Rattle.buck_dp.specs.inner.Site.{IsMarketOf, IsPlan};
+ghost use Rattle.buck_dp.specs.inner.StemGrid.{IsCacheOf, IsPlan};
 
 use crate::bid::HIGHEST_RANK;
 use crate::ends::point_after;
-use crate::market::Market;
-use crate::planning::{Search, Site};
+use crate::planning::{Search, StemGrid};
+use crate::sheet_cache::SheetCache;
 use buck_value::Log;
 use std::alloc::{AllocError, Global};
 
-/// The log of the offer of a rank that starts at point `i`.
+/// The log of a rank's log type that starts at point `i`.
 #[tactic(auto, unfolding(crate::specs::inner::Logs::log_at))]
-fn log_at(market: &Market, rank: u32, i: usize) -> Log
+fn log_at(cache: &SheetCache, rank: u32, i: usize) -> Log
     ghost p: { GroundParts }
     requires valid { IsSheet p.sheet }
-    requires market { IsMarketOf p market.now }
-    requires rank { IsRank p.menu.offers.items rank }
+    requires cache { IsCacheOf p cache.now }
+    requires rank { IsRank p.types.list.items rank }
     requires i { i * p.sheet.instruction.module ≤ 40000 }
     ensures { result ≡ log_at p rank i }
 {
-    let offer = market.menu().offers[(HIGHEST_RANK - rank) as usize];
+    let log_type = cache.types().list[(HIGHEST_RANK - rank) as usize];
     Log {
-        start: i as u32 * market.sheet().instruction().module(),
-        length: offer.length,
-        assortment: offer.assortment,
+        start: i as u32 * cache.sheet().instruction().module(),
+        length: log_type.length,
+        assortment: log_type.assortment,
     }
 }
 
@@ -35,11 +35,11 @@ fn log_at(market: &Market, rank: u32, i: usize) -> Log
 /// the log that starts at its point, 0 if none does.
 pub(crate) fn follow(
     alloc: Global,
-    site: Site<'_>,
+    grid: StemGrid<'_>,
     search: &Search,
 ) -> Result<(Vec<Log>, u64), AllocError>
     ghost p: { GroundParts }
-    requires plan { IsPlan p site search.now 0 }
+    requires plan { IsPlan p grid search.now 0 }
     ensures first { IfOk result (λ best. IsFirstBest p.sheet p.stem best.0.items) }
     ensures worth { IfOk result (λ best. best.1 ≡ cutting_worth p.sheet p.stem best.0.items) }
 {
@@ -51,10 +51,10 @@ pub(crate) fn follow(
         if rank == 0 {
             i += 1;
         } else {
-            let log = log_at(&search.market, rank, i);
+            let log = log_at(&search.cache, rank, i);
             logs.push(log)?;
             // A trim need not be a multiple of the module, so the next log starts at the first point after the end.
-            i = point_after(search.market.sheet(), site.stem, &log);
+            i = point_after(search.cache.sheet(), grid.stem, &log);
         }
     }
     Ok((logs, search.values[0].worth()))

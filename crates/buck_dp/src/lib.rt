@@ -1,19 +1,19 @@
 //! The best cutting of one stem: a dynamic programme over cutting positions.
 #![tactic(auto)]
 
+mod assortment_sets;
 mod bid;
 mod cutting;
 mod ends;
 mod following;
 mod judging;
 pub mod laws;
-mod market;
+mod log_types;
 mod offering;
-mod offers;
 mod planner;
 mod planning;
 mod pricing;
-mod takers;
+mod sheet_cache;
 
 pub use buck_record::Memory;
 pub use cutting::Cutting;

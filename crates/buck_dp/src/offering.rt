@@ -4,11 +4,11 @@ ghost use Rattle.buck_dp.specs.declared.offering.Cell.{Cell};
 ghost use Rattle.buck_dp.specs.inner.Bid.{BidParts};
 ghost use Rattle.buck_dp.specs.inner.Logs.{GroundParts};
 ghost use Rattle.buck_dp.specs.inner.Searched.{AllFit, IsSearch, AreOffered, AreChosen, CanOffer, IsOffered};
-ghost use Rattle.buck_dp.specs.declared.pricing.Quote.{Quote};
-ghost use Rattle.buck_dp.specs.inner.Quotes.{cell_of, row_of, IsSmall};
+ghost use Rattle.buck_dp.specs.declared.pricing.Candidate.{Candidate};
+ghost use Rattle.buck_dp.specs.inner.Candidates.{cell_of, row_of, IsSmall};
 
 use crate::bid::Bid;
-use crate::pricing::Quote;
+use crate::pricing::Candidate;
 use std::alloc::AllocError;
 use std::ops::Range;
 
@@ -29,29 +29,29 @@ pub struct Cell {
     pub next: usize,
 }
 
-/// The cell of a quote at a diameter, in a row that reaches `far` points back.
+/// The cell of a candidate at a diameter, in a row that reaches `far` points back.
 #[inline(always)]
-fn cell_at(quote: Quote, diameter: u32, far: usize) -> Cell
-    requires small { IsSmall quote }
+fn cell_at(candidate: Candidate, diameter: u32, far: usize) -> Cell
+    requires small { IsSmall candidate }
     requires diameter { diameter ≤ 1500 }
-    requires far { (quote.term.steps ≤ far) × (far ≤ 4294967295) }
-    ensures { result ≡ cell_of far diameter quote }
+    requires far { (candidate.term.steps ≤ far) × (far ≤ 4294967295) }
+    ensures { result ≡ cell_of far diameter candidate }
 {
     // A cell of 40 bytes instead of 24, for an inner loop of 11 instructions instead of 15.
     Cell {
-        bid: quote.bid(diameter),
-        steps: quote.term.steps,
-        trim: quote.term.trim,
-        rise: quote.term.rise,
-        back: far - quote.term.steps as usize,
-        next: far + quote.term.rise as usize,
+        bid: candidate.bid(diameter),
+        steps: candidate.term.steps,
+        trim: candidate.term.trim,
+        rise: candidate.term.rise,
+        back: far - candidate.term.steps as usize,
+        next: far + candidate.term.rise as usize,
     }
 }
 
-/// Puts the row of a price list at a diameter behind others. It reaches `far` points back.
+/// Puts the row of a candidate list at a diameter behind others. It reaches `far` points back.
 pub fn put_row(
     cells: &mut Vec<Cell>,
-    list: &[Quote],
+    list: &[Candidate],
     diameter: u32,
     far: usize,
 ) -> Result<(), AllocError>
@@ -62,8 +62,8 @@ pub fn put_row(
     ensures left { OnErr result (cells.new.items ≡ cells.old.items) }
 {
     cells.reserve(list.len())?;
-    for quote in list {
-        cells.push_reserved(cell_at(*quote, diameter, far));
+    for candidate in list {
+        cells.push_reserved(cell_at(*candidate, diameter, far));
     }
     Ok(())
 }

@@ -2,11 +2,13 @@
 ghost use Rattle.std.specs.Prelude.{◌≡◌, ◌≤◌, IfOk, IfErr, OnOk};
 ghost use Rattle.buck_value.specs.Sheet.{IsSheet, SheetParts};
 ghost use Rattle.buck_dp.specs.Best.{IsFirstBest, cutting_worth};
+ghost use Rattle.buck_dp.specs.inner.Logs.{GroundParts};
+ghost use Rattle.buck_dp.specs.inner.StemGrid.{IsGrid, IsCacheOf};
 
 use crate::cutting::Cutting;
 use crate::following::follow;
-use crate::market::Market;
-use crate::planning::{Search, Site, fit_of};
+use crate::planning::{Search, StemGrid, fit_of};
+use crate::sheet_cache::SheetCache;
 use buck_record::Memory;
 use buck_stem::{Profile, ProfileLists, Stem};
 use buck_value::Sheet;
@@ -18,12 +20,12 @@ use std::sync::Arc;
 /// than by [`best`](crate::best), with the same answer.
 #[derive(Drop)]
 pub struct Planner {
-    own: Box<Own>,
+    inner: Box<Inner>,
 }
 
 /// What a planner keeps from stem to stem: its search, and the lists of a profile.
 #[derive(Drop)]
-struct Own {
+struct Inner {
     search: Search,
     lists: ProfileLists,
 }
@@ -33,42 +35,58 @@ impl Model for Planner {
 
     ghost Value = { SheetParts };
 
-    ghost view = { λ p. p.own.value.search.market.sheet };
+    ghost view = { λ p. p.inner.value.search.cache.sheet };
+}
+
+/// The first of the best cuttings of a stem at its points, and its worth.
+fn cut_on_grid(
+    alloc: Global,
+    search: &mut Search,
+    grid: StemGrid<'_>,
+) -> Result<(Cutting, u64), Memory>
+    ghost p: { GroundParts }
+    requires grid { IsGrid p grid }
+    requires cache { IsCacheOf p search.old.cache }
+    ensures cache { IsCacheOf p search.new.cache }
+    ensures first { IfOk result (λ found. IsFirstBest p.sheet p.stem found.0.logs.items) }
+    ensures worth { IfOk result (λ found. found.1 ≡ cutting_worth p.sheet p.stem found.0.logs.items) }
+{
+    search.search(alloc, grid)?;
+    let (logs, worth) = follow(alloc, grid, search)?;
+    Ok((Cutting { logs }, worth))
 }
 
 /// The first of the best cuttings of a stem, and its worth.
 #[tactic(auto, using(crate::proofs::Lists::cut_bounded))]
-fn cut(alloc: Global, own: &mut Own, stem: &Stem) -> Result<(Cutting, u64), Memory>
-    ensures same { own.new.search.market.sheet ≡ own.old.search.market.sheet }
-    ensures first { IfOk result (λ found. IsFirstBest own.old.search.market.sheet stem.now found.0.logs.items) }
+fn cut(alloc: Global, inner: &mut Inner, stem: &Stem) -> Result<(Cutting, u64), Memory>
+    ensures same { inner.new.search.cache.sheet ≡ inner.old.search.cache.sheet }
+    ensures first { IfOk result (λ found. IsFirstBest inner.old.search.cache.sheet stem.now found.0.logs.items) }
     ensures worth { IfOk result (λ found.
-        found.1 ≡ cutting_worth own.old.search.market.sheet stem.now found.0.logs.items) }
+        found.1 ≡ cutting_worth inner.old.search.cache.sheet stem.now found.0.logs.items) }
     ensures high { IfOk result (λ found. found.1 ≤ 2800000000000000) }
-    ensures valid { IsSheet own.old.search.market.sheet }
+    ensures valid { IsSheet inner.old.search.cache.sheet }
 {
-    let search = &mut own.search;
-    search.market.clear_if_worn();
-    let sheet = search.market.sheet();
+    let search = &mut inner.search;
+    search.cache.clear_if_worn();
+    let sheet = search.cache.sheet();
     let fit = fit_of(sheet, stem);
     // In lists that are kept from stem to stem: new ones would be up to a fifteenth of a plan's cost.
-    let profile = Profile::make_in(&mut own.lists, stem, sheet.instruction().module())?;
-    let site = Site {
+    let profile = Profile::make_in(&mut inner.lists, stem, sheet.instruction().module())?;
+    let grid = StemGrid {
         stem,
         profile: &profile,
         fit,
     };
-    search.search(alloc, site)?;
-    let (logs, worth) = follow(alloc, site, search)?;
-    Ok((Cutting { logs }, worth))
+    cut_on_grid(alloc, search, grid)
 }
 
 /// The first of the best cuttings of a stem under a sheet, and its worth in millionths of the price unit.
 ///
 /// The cutting is admissible, no admissible list of logs is worth more, and it comes before every other such one: at
 /// the first difference stands the lower start, then the shorter log, then the lower assortment, and a list that goes
-/// on comes before its own prefix. So a log worth nothing is cut if it is allowed. If no log is allowed, the
-/// cutting is empty and worth 0. `Memory` if a list couldn't grow: a copy of the prices, the price lists, the values
-/// of the points, and the logs. Stem after stem is planned faster by a [`Planner`](crate::Planner).
+/// on comes before its own prefix. So a log worth nothing is cut if it is allowed. If no log is allowed, the cutting is
+/// empty and worth 0. `Memory` if a list couldn't grow: a copy of the prices, the candidate lists, the values of the
+/// points, and the logs. Stem after stem is planned faster by a [`Planner`](crate::Planner).
 ///
 /// Bucking as a longest path, solved by dynamic programming over the places of a stem: M. Näsberg, "Mathematical
 /// Programming Models for Optimal Log Bucking", Linköping, 1985.
@@ -86,21 +104,21 @@ impl Planner {
         ensures { IfOk result (λ p. p ≡ sheet.value) }
     {
         let search = Search {
-            market: Market::of(alloc, sheet)?,
-            parts: Vec::new(alloc),
+            cache: SheetCache::of(alloc, sheet)?,
+            ranges: Vec::new(alloc),
             values: Vec::new(alloc),
             choices: Vec::new(alloc),
         };
         let lists = ProfileLists::new(alloc);
-        let own = Box::new(alloc, Own { search, lists })?;
-        Ok(Planner { own })
+        let inner = Box::new(alloc, Inner { search, lists })?;
+        Ok(Planner { inner })
     }
 
     /// The sheet under which it plans.
     pub fn sheet(&self) -> &Arc<Sheet>
         ensures { result.now.value ≡ self.now }
     {
-        self.own.search.market.sheet()
+        self.inner.search.cache.sheet()
     }
 
     /// The first of the best cuttings of a stem under its sheet, and its worth in millionths of the price unit, as
@@ -112,7 +130,7 @@ impl Planner {
         ensures high { IfOk result (λ found. found.1 ≤ 2800000000000000) }
         ensures valid { IsSheet self.old }
     {
-        cut(alloc, &mut self.own, stem)
+        cut(alloc, &mut self.inner, stem)
     }
 
     /// Plans under another sheet from now on. Refused as `Memory` alone: it then plans under the sheet as before. What
@@ -125,7 +143,7 @@ impl Planner {
             *self = Planner::make(alloc, sheet)?;
             return Ok(());
         }
-        self.own.search.market.renew(sheet);
+        self.inner.search.cache.renew(sheet);
         Ok(())
     }
 }

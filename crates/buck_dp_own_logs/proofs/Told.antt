@@ -1,10 +1,13 @@
 -- Reasons in their order, one after the other.
-use Rattle.std.proofs.Common.{◌≡◌, ◌≢◌, ℕ, zero, suc, ◌+◌, ◌*◌, ◌<◌, ◌≤◌, inl, inr, length, Contains, Some, slice_get, slice_index, refl, sym, ◌∙◌, ap, subst, arith}
+use Rattle.std.proofs.Common.{◌≡◌, ◌≢◌, ℕ, zero, suc, ◌+◌, ◌*◌, ◌<◌, ◌≤◌, ◌↔◌, inl, inr, length, Contains, Some, slice_get, slice_index, refl, sym, ◌∙◌, ap, subst, arith}
 use Rattle.std.proofs.lemmas.Bool.{cases_eq}
 use Rattle.buck_apt.specs.Instruction.{InstructionParts, AssortmentParts}
-use Rattle.buck_stem.specs.Stem.{StemParts, stem_length, diameter_at, HasGradesOf}
+use Rattle.buck_stem.specs.Stem.{StemParts, IsStem, stem_length, diameter_at, HasGradesOf}
+use Rattle.buck_stem.specs.points.Profile.{IsMask}
 use Rattle.buck_value.specs.declared.log.Log.{Log}
 use Rattle.buck_value.specs.Allowed.{top_of, top_diameter, row_at, column_of}
+use Rattle.buck_value.specs.Wood.{TakesWood}
+use Rattle.buck_value.proofs.Grades.{mask_allows}
 use Rattle.buck_dp_own_logs.specs.declared.reason.Reason.{Reason}
 use Rattle.buck_dp_own_logs.specs.declared.reason.Reason.TheVariants.{Order, Assortment, Species, Start, Length, End, Grade, Diameter, Price}
 use Rattle.buck_dp_own_logs.specs.Reasons.{HoldsOfIts, Applies, number_of, NoneBelow}
@@ -69,11 +72,9 @@ past_end i stem from g a there p has within =
     (λ x. omega (arith, of_it i g a _ there x, within))
 
 pub past_grade : (i : InstructionParts) (stem : StemParts) (from : ℕ) (g : Log) (a : AssortmentParts)
-    → slice_get i.assortments g.assortment ≡ Some a → NoneBelow i stem from g 5
-    → Contains a.lengths g.length → top_of g + a.trim ≤ stem_length stem.samples
+    → slice_get i.assortments g.assortment ≡ Some a → NoneBelow i stem from g 7
     → HasGradesOf stem.zones g.start (top_of g) a.grades → NoneBelow i stem from g 8
-past_grade i stem from g a there p has within good =
-    none_more i stem from g Grade (past_end i stem from g a there p has within) (λ x. of_it i g a _ there x good)
+past_grade i stem from g a there p good = none_more i stem from g Grade p (λ x. of_it i g a _ there x good)
 
 pub past_diameter : (i : InstructionParts) (stem : StemParts) (from : ℕ) (g : Log) (a : AssortmentParts)
     → slice_get i.assortments g.assortment ≡ Some a → NoneBelow i stem from g 8
@@ -90,6 +91,23 @@ pub past_price : (i : InstructionParts) (stem : StemParts) (from : ℕ) (g : Log
     → NoneBelow i stem from g 10
 past_price i stem from g a there p priced =
     none_more i stem from g Price p (λ x. priced (of_it i g a _ there x))
+
+-- an assortment to which no reason before the length's applies is of the stem's species
+pub its_species : (i : InstructionParts) (stem : StemParts) (from : ℕ) (g : Log) (a : AssortmentParts)
+    → slice_get i.assortments g.assortment ≡ Some a → NoneBelow i stem from g 5 → a.species ≡ stem.species
+its_species i stem from g a there p = elim (cases_eq a.species stem.species) [
+  | inl same ↦ same
+  | inr other ↦ absurd (p Species (omega arith) (it_has i g a _ there other))
+]
+
+-- whether the wood of a log is taken, by the mask of its grades
+pub takes_exactly : (stem : StemParts) (g : Log) (a : AssortmentParts) (top species mask grades : ℕ) → IsStem stem
+    → top ≡ top_of g → species ≡ stem.species → IsMask stem.zones g.start top mask → grades ≡ mask
+    → (TakesWood a species grades
+    ↔ ((a.species ≡ stem.species) × HasGradesOf stem.zones g.start (top_of g) a.grades))
+takes_exactly stem g a top species mask grades v is_top is_species is same =
+    let fits = mask_allows stem g.start top mask a.grades v is in
+    rw (same, is_species, ← is_top) (λ takes. (takes.0, fits.0 takes.1), λ has. (has.0, fits.1 has.1))
 
 -- the top diameter and the price by what was looked up
 pub top_is : (stem : StemParts) (g : Log) (top d : ℕ) → top ≡ top_of g → d ≡ diameter_at stem.samples top

@@ -8,8 +8,8 @@ ghost use Rattle.buck_dp_own_logs.specs.inner.Measured.{HoldsMeasured};
 
 use crate::reason::Reason;
 use buck_apt::{Assortment, Instruction};
-use buck_stem::Stem;
-use buck_value::{Log, Sheet, column_of, log_worth, row_of};
+use buck_stem::{Grades, Stem};
+use buck_value::{Log, Sheet, column_of, log_worth, row_of, takes};
 
 /// The verdict on a cutting that someone names.
 #[derive(Clone, Copy, Debug, PartialEq, Eq, Drop)]
@@ -59,7 +59,9 @@ fn reason_measured(assortment: &Assortment, stem: &Stem, log: &Log) -> Option<Re
     let Some(top) = top_within(stem, assortment.trim(), log) else {
         return Some(Reason::End);
     };
-    if !stem.has_grades_of(log.start, top, assortment.grades()) {
+    let grades = Grades::of(stem.grades_between(log.start, top));
+    // The species was tested before, so it is for its grades alone that wood isn't taken here.
+    if !takes(assortment, stem.species(), grades) {
         return Some(Reason::Grade);
     }
     let diameter = stem.diameter_at(top);

@@ -1,5 +1,5 @@
 -- The first piece of a text.
-use Rattle.std.proofs.Common.{◌≡◌, ℕ, ◌+◌, ◌≤◌, true, false, List, ◌∷◌, Option, None, Some, length, get_or, refl, sym, ap, ap₂, subst, ◌==◌, eqb-true, ◌∙◌, arith, length-drop}
+use Rattle.std.proofs.Common.{◌≡◌, ℕ, ◌+◌, ◌<◌, ◌≤◌, true, false, List, ◌∷◌, Option, None, Some, length, get_or, refl, sym, ap, ap₂, subst, ◌==◌, eqb-true, ◌∙◌, arith, length-drop}
 use Rattle.std.specs.Prelude.{position}
 use Rattle.std.specs.List.{before_first, after_first, position_or_len}
 use Rattle.std.proofs.lemmas.List.Sums.{position_or_len_is}
@@ -8,7 +8,7 @@ use Rattle.memchr.specs.Find.{IsFirstByte, is_byte}
 use Rattle.buck_record.specs.Item.{ItemParts}
 use Rattle.buck_record.specs.bytes.White.{trim}
 unfoldable use Rattle.buck_record.specs.Reading.{each_from}
-use Rattle.buck_record.specs.bytes.Record.{is_tilde}
+use Rattle.buck_record.specs.bytes.Record.{is_tilde, item_of, pieces}
 use Rattle.buck_record.specs.pass.Cursor.{HasItems, HasItemsIn, Leads, item_in}
 use Rattle.buck_record.specs.inner.Front.{IsCut}
 use Rattle.buck_record.proofs.PassLemmas.{both}
@@ -31,6 +31,11 @@ pub leads_on : {text left : List ℕ} {item : ItemParts} → Leads text item lef
     → HasItems left items → HasItems text (item ∷ items)
 unfolding each_from
 leads_on l items h = λ k. rw (l.first, l.head, h (k + 1)) refl
+
+-- a text whose first piece is an item begins with it
+pub begins_with : {text piece left : List ℕ} {item : ItemParts} → pieces text ≡ piece ∷ pieces left
+    → item_of piece ≡ Some item → length left < length text → Leads text item left
+begins_with {text} {piece} first head shorter = record { piece = piece; first = first; head = head; shorter = shorter }
 
 -- the same of the items in some slots, where the first item stands in one
 pub kept_on : {text left : List ℕ} {item : ItemParts} (slots : List Slot) → Leads text item left

@@ -1,7 +1,7 @@
 //! Files of items: what stands between tildes, each with a number, a kind and a rest.
 //!
 //! [`pieces`] and [`items`] read a file, [`pieces_at`] only the items in some slots; [`numbers`], [`number`] and
-//! [`wide`] read the rest of an item. [`next_in`], [`past_others`] and [`is_done`] go over a file with no list of its items,
+//! [`wide`] read the rest of an item. [`next_in`], [`next_of`] and [`is_done`] go over a file with no list of its items,
 //! [`numbers_into`] reads numbers into a list that is kept, and [`two_parts`] cuts a file for threads.
 //! [`table`] looks items up by number and kind, [`check`] chains the checks of a reader that stands on this crate,
 //! [`rules`] has what such readers share, [`Described`] is what is said of an item, and [`laws`] says that what is
@@ -35,7 +35,7 @@ pub use item::{Item, Piece};
 pub use listed::Listed;
 pub use memory::Memory;
 pub use numbered::{FaultNumbers, Numbered};
-pub use pass::cursor::{is_done, next_in, next_of, past_others};
+pub use pass::cursor::{OutOfOrder, is_done, next_in, next_of};
 pub use pass::kept_numbers::numbers_into;
 pub use pass::parts::two_parts;
 pub use slot::Slot;

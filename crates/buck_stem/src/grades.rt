@@ -2,7 +2,7 @@
 ghost use Rattle.std.specs.Prelude.{◌≡◌, ℕ, ◌-◌, ◌≤◌, ◌⊎◌, ◌↔◌, IsTrue};
 ghost use Rattle.std.specs.Int.{bit_at};
 ghost use Rattle.buck_stem.specs.Stem.{IsGrade};
-ghost use Rattle.buck_stem.specs.inner.Zones.{AreGradesOf, ShowsGrade};
+ghost use Rattle.buck_stem.specs.inner.Zones.{ShowsGrade};
 
 use std::marker::Model;
 
@@ -66,16 +66,4 @@ impl Grades {
             bits: self.bits | (1 << (grade - 1)),
         }
     }
-}
-
-/// Whether each of some grades is one of these.
-pub(crate) fn are_in(grades: Grades, list: &[u8]) -> bool
-    ensures { IsTrue result ↔ AreGradesOf grades list.now }
-{
-    for grade in 1..9u8 {
-        if grades.contains(grade) && !list.contains(&grade) {
-            return false;
-        }
-    }
-    true
 }

@@ -1,5 +1,5 @@
 -- Which logs an assortment allows, as the code tests it, and their classes.
-use Rattle.std.proofs.Common.{◌≡◌, ℕ, ◌+◌, ◌*◌, ◌/◌, ◌%◌, ◌<◌, ◌≤◌, ◌==◌, List, All, Contains, Option, Some, None, IsTrue, true, false, true≢false, length, get_or, slice_get, unwrap_or, position, refl, sym, ◌∙◌, ap, subst}
+use Rattle.std.proofs.Common.{◌≡◌, ℕ, ◌+◌, ◌*◌, ◌/◌, ◌%◌, ◌<◌, ◌≤◌, ◌==◌, List, All, Contains, Option, Some, None, true≢false, length, get_or, slice_get, unwrap_or, position, refl, sym, ◌∙◌, ap, subst}
 use Rattle.std.proofs.Common.{arith, eqb-true, eq-eqb}
 use Rattle.std.proofs.lemmas.Nat.{div-add-mod'}
 use Rattle.std.proofs.Math.Nat.{add-mul-mod_self_right}
@@ -10,7 +10,7 @@ use Rattle.std.proofs.lemmas.List.Sums.{fails_before_first}
 use Rattle.buck_record.proofs.TableLemmas.{place-none}
 use Rattle.buck_apt.specs.Instruction.{InstructionParts, AssortmentParts, IsAssortment, IsInstruction, IsClass, IsOnModule}
 use Rattle.buck_apt.specs.declared.class.Class.{Class}
-use Rattle.buck_stem.specs.Stem.{StemParts, HasGradesOf}
+use Rattle.buck_stem.specs.Stem.{StemParts}
 use Rattle.buck_value.specs.declared.log.Log.{Log}
 use Rattle.buck_value.specs.Sheet.{SheetParts, price_of}
 use Rattle.buck_value.specs.Volume.{volume, worth_at}
@@ -41,19 +41,6 @@ column_there xs l has = of (position (λ x. x == l) xs) refl
     of : (o : Option ℕ) → position (λ x. x == l) xs ≡ o → (column : ℕ) × (o ≡ Some column)
     of None e = absurd (column_none xs l e has)
     of (Some column) e = (column, refl)
-
--- a test that failed, over equal values
-pub grades_fail : (zones : List (ℕ × ℕ)) (a b e : ℕ) (grades gs : List ℕ)
-    → (IsTrue false → HasGradesOf zones a e gs) × (HasGradesOf zones a e gs → IsTrue false)
-    → gs ≡ grades → e ≡ b
-    → HasGradesOf zones a b grades → ⊥
-grades_fail zones a b e grades gs iff same end has = true≢false (sym (iff.1 (rw (same, end) has)))
-
-pub grades_pass : (zones : List (ℕ × ℕ)) (a b e : ℕ) (grades gs : List ℕ)
-    → (IsTrue true → HasGradesOf zones a e gs) × (HasGradesOf zones a e gs → IsTrue true)
-    → gs ≡ grades → e ≡ b
-    → HasGradesOf zones a b grades
-grades_pass zones a b e grades gs iff same end = rw (same, end) at (iff.0 refl)
 
 -- a multiple of a step, in steps
 pub whole_steps : (l step : ℕ) → l % step ≡ 0 → l / step * step ≡ l

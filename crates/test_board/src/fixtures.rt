@@ -10,17 +10,26 @@ use std::alloc::Global;
 use std::sync::{Arc, Wait};
 use std::test::Fail;
 
-/// The base prices of the saw instruction.
-pub const BASE: [u32; 4] = [400, 500, 600, 800];
-
 /// How many sheets are put up in the long runs.
 pub const MANY: u32 = 1000;
 
-/// Prices within the spans of the saw instruction at a limit of 1,000 per mille, others for each version.
-pub fn prices_of(version: u32) -> [u32; 4]
-    requires { version ≤ 1000 }
+/// Prices within the spans of the saw instruction at a limit of 1,000 per mille, others for each version up to 1,000. Those
+/// of version 0 are its base prices.
+pub fn prices_of(version: u32) -> [u32; 4] {
+    [
+        400 + version % 401,
+        500 - version % 501,
+        600 + version % 601,
+        800 - version % 801,
+    ]
+}
+
+/// The base sheet of an instruction.
+fn base_of(alloc: Global, instruction: &Arc<Instruction>) -> Result<Arc<Sheet>, Fail>
+    ensures { IfOk result (λ s. s.value.version ≡ 0) }
 {
-    [version % 701, version, 1200 - version, 600 + version]
+    let base = Sheet::base(alloc, instruction.clone()?)?;
+    Ok(Arc::new(alloc, base)?)
 }
 
 /// A board for two seats that shows the base sheet of an instruction.
@@ -32,42 +41,30 @@ pub fn board_of<R: Wait>(
     ensures one { IfOk result (λ b. IsSeatOf b.0 b.1) }
     ensures two { IfOk result (λ b. IsSeatOf b.0 b.2) }
 {
-    let base = Sheet::base(alloc, instruction.clone()?)?;
-    let base = Arc::new(alloc, base)?;
+    let base = base_of(alloc, instruction)?;
     Ok(open_for_two(rt, alloc, base)?)
 }
 
-/// A sheet of these prices.
+/// The sheet of a version, of its prices.
 pub fn sheet_of(
     alloc: Global,
     instruction: &Arc<Instruction>,
     version: u32,
-    prices: &[u32],
 ) -> Result<Arc<Sheet>, Fail> {
-    let prices = prices.to_vec(alloc)?;
+    let prices = prices_of(version).as_slice().to_vec(alloc)?;
     let sheet = Sheet::with_prices(instruction.clone()?, version, prices)?;
     Ok(Arc::new(alloc, sheet)?)
 }
 
-/// Whether a read shows the sheet of this version and these prices.
+/// Whether a read shows a sheet of these prices, or none where there are no prices, and the seat has then seen this
+/// version. That a sheet is shown with its own version is a clause.
 pub fn shows(board: &Board, seat: &mut BoardSeat, version: u32, prices: &[u32]) -> bool
     requires { IsSeatOf board.now seat.old }
     ensures { IsSeatOf board.now seat.new }
 {
-    match board.read(&mut *seat) {
-        None => false,
-        Some(shown) => {
-            let sheet = shown.sheet();
-            shown.version() == version && sheet.version() == version && sheet.prices() == prices
-        }
-    }
-}
-
-/// Whether a read shows no sheet, and the seat has then seen this version.
-pub fn shows_none(board: &Board, seat: &mut BoardSeat, version: u32) -> bool
-    requires { IsSeatOf board.now seat.old }
-    ensures { IsSeatOf board.now seat.new }
-{
-    let is_none = board.read(&mut *seat).is_none();
-    is_none && seat.seen() == version
+    let is_right = match board.read(&mut *seat) {
+        None => prices.is_empty(),
+        Some(shown) => shown.sheet().prices() == prices,
+    };
+    is_right && seat.seen() == version
 }

@@ -14,27 +14,21 @@ use std::test::Fail;
 /// So many sheets fill the first room of a list, and part of the second.
 const SOME: u32 = 40;
 
-/// Puts up sheets of the versions from 1 on, and gives how many before the first that was refused, and whether one was.
+/// Puts up sheets of the versions from 1 on, and gives how many were put up before the first that was refused.
 fn put_up_some<R: Wait>(
     rt: &R,
     alloc: Global,
     board: &Board,
     instruction: &Arc<Instruction>,
-) -> Result<(u32, bool), Fail> {
+) -> Result<u32, Fail> {
     let mut before = 0;
-    let mut is_refused = false;
     for version in 1..SOME + 1 {
-        let sheet = sheet_of(alloc, instruction, version, &prices_of(version))?;
-        match board.put_up(rt, alloc, sheet) {
-            Err(Memory) => is_refused = true,
-            Ok(()) => {
-                if !is_refused {
-                    before = version;
-                }
-            }
+        let sheet = sheet_of(alloc, instruction, version)?;
+        if board.put_up(rt, alloc, sheet).is_ok() && before == version - 1 {
+            before = version;
         }
     }
-    Ok((before, is_refused))
+    Ok(before)
 }
 
 /// Whether the versions up to one are shown, and those after it are not.
@@ -42,30 +36,52 @@ fn shows_up_to(board: &Board, one: &mut BoardSeat, two: &mut BoardSeat, before: 
     requires one { IsSeatOf board.now one.old }
     requires two { IsSeatOf board.now two.old }
 {
-    for version in 1..SOME + 1 {
+    for version in 0..SOME + 1 {
         board.raise(&mut *one, version);
-        let is_right = if version <= before {
-            shows(board, &mut *two, version, &prices_of(version))
+        let prices = prices_of(version);
+        let wanted = if version <= before {
+            prices.as_slice()
         } else {
-            shows_none(board, &mut *two, version)
+            &[]
         };
-        if !is_right {
+        if !shows(board, &mut *two, version, wanted) {
             return false;
         }
     }
     true
 }
 
-#[test]
-fn refused_memory(rt: HostRuntime) -> Result<(), Fail> {
-    let alloc = rt.alloc();
-    let instruction = saw_instruction(alloc, 1, 1000, "1 1 1 1")?;
-    let (board, mut one, mut two) = board_of(&rt, alloc, &instruction)?;
-    let (before, is_refused) = put_up_some(&rt, alloc, &board, &instruction)?;
-    assert!(rt; shows(&board, &mut one, 0, &BASE));
-    assert!(rt; shows_up_to(&board, &mut one, &mut two, before));
-    if is_refused {
+/// Whether what was put up is shown, and an error if something was refused.
+fn shows_what_was_put_up<R: Wait>(
+    rt: &R,
+    alloc: Global,
+    board: &Board,
+    instruction: &Arc<Instruction>,
+    one: &mut BoardSeat,
+    two: &mut BoardSeat,
+) -> Result<bool, Fail>
+    requires one { IsSeatOf board.now one.old }
+    requires two { IsSeatOf board.now two.old }
+{
+    let before = put_up_some(rt, alloc, board, instruction)?;
+    if !shows_up_to(board, one, two, before) {
+        return Ok(false);
+    }
+    if before < SOME {
         return Err(Fail::from(Memory));
     }
+    Ok(true)
+}
+
+/// The same of a new board.
+fn is_shown_on_a_board<R: Wait>(rt: &R, alloc: Global) -> Result<bool, Fail> {
+    let instruction = saw_instruction(alloc, 1, 1000, "1 1 1 1")?;
+    let (board, mut one, mut two) = board_of(rt, alloc, &instruction)?;
+    shows_what_was_put_up(rt, alloc, &board, &instruction, &mut one, &mut two)
+}
+
+#[test]
+fn refused_memory(rt: HostRuntime) -> Result<(), Fail> {
+    assert!(rt; is_shown_on_a_board(&rt, rt.alloc())?);
     Ok(())
 }

@@ -17,15 +17,8 @@ use std::thread;
 /// Whether a snapshot is of this version or a later one, and shows the prices that were put up for its version.
 fn is_right(shown: &Snapshot, least: u32) -> bool {
     let version = shown.version();
-    if version < least || MANY < version {
-        return false;
-    }
     let prices = shown.sheet().prices();
-    if version == 0 {
-        prices == BASE.as_slice()
-    } else {
-        prices == prices_of(version).as_slice()
-    }
+    least <= version && version <= MANY && prices == prices_of(version).as_slice()
 }
 
 /// Whether a read shows a sheet that was put up, no older than what the seat had seen, and a second read after it one
@@ -104,7 +97,7 @@ fn put_all_up<R: Wait>(
 fn all_sheets(alloc: Global, instruction: &Arc<Instruction>) -> Result<Vec<Arc<Sheet>>, Fail> {
     let mut sheets = Vec::with_capacity(alloc, MANY as usize)?;
     for version in 1..MANY + 1 {
-        sheets.push(sheet_of(alloc, instruction, version, &prices_of(version))?)?;
+        sheets.push(sheet_of(alloc, instruction, version)?)?;
     }
     Ok(sheets)
 }

@@ -6,11 +6,7 @@
 #[cfg(test)]
 mod cursors;
 #[cfg(test)]
-mod instructions;
-#[cfg(test)]
 mod items;
-#[cfg(test)]
-mod lists;
 #[cfg(test)]
 mod long_files;
 #[cfg(test)]
@@ -19,8 +15,6 @@ mod memory;
 mod numbers;
 #[cfg(test)]
 mod parts;
-#[cfg(test)]
-mod profiles;
 #[cfg(test)]
 mod stems;
 #[cfg(test)]

@@ -1,23 +1,25 @@
 //! Texts of faults.
 use buck_apt::AptFault;
-use buck_record::{FormFault, Memory, RecordFault, slot};
+use buck_record::{Memory, RecordFault};
 use buck_stem::{StemFault, StmFault};
 use std::alloc::Global;
 use std::fmt::Display;
-use std::test::Fail;
 
-/// The texts of what the faults of both readers have in common, each on a line of its own.
-const OF_INSTRUCTIONS: &str = "item 3 has no head
+const INSTRUCTIONS: &str = "item 3 has no head
+the file is not an instruction
 item 954 1 is missing
 item 954 1 stands twice
 word 2 of item 954 1 is not a number
 item 954 1 is out of range
 item 954 1 is out of order
 item 954 1 has another count of numbers
+length 650 is not a multiple of the module
+the targets of assortment 3 are too many
 out of memory
 ";
 
-const OF_STEMS: &str = "item 3 has no head
+const STEMS: &str = "item 3 has no head
+the file is not one of stems
 item 954 1 is missing
 item 954 1 stands twice
 word 2 of item 954 1 is not a number
@@ -27,44 +29,93 @@ item 954 1 has another count of numbers
 out of memory
 ";
 
-/// Those texts as they are.
-fn common<T: FormFault + Display>(alloc: Global) -> Result<String, Fail> {
-    let slot = slot!(954, 1);
-    let (head, missing, twice) = (T::headless(3), T::missing(slot), T::twice(slot));
-    let (digits, range, order) = (T::digits(slot, 2), T::range(slot), T::order(slot));
-    let (count, memory) = (T::count(slot), T::out_of_memory());
-    let first = format!(in alloc; "{head}\n{missing}\n{twice}\n{digits}\n")?;
-    Ok(format!(in alloc; "{first}{range}\n{order}\n{count}\n{memory}\n")?)
-}
+const OF_RECORDS: [RecordFault; 3] = [
+    RecordFault::Head { item: 2 },
+    RecordFault::Digits { place: 3 },
+    RecordFault::Memory,
+];
 
-/// The texts of all other faults.
-const OTHERS: &str = "the file is not an instruction
-length 650 is not a multiple of the module
-the targets of assortment 3 are too many
-the file is not one of stems
-the stem is outside its limits; out of memory
-item 2 has no head; word 3 is not a number; out of memory
+const RECORDS: &str = "item 2 has no head
+word 3 is not a number
 out of memory
 ";
 
-/// Those texts as they are.
-fn others(alloc: Global) -> Result<String, Fail> {
-    let (kind, module) = (AptFault::NotApt, AptFault::Module { length: 650 });
-    let (targets, stems) = (AptFault::Targets { assortment: 3 }, StmFault::NotStm);
-    let files = format!(in alloc; "{kind}\n{module}\n{targets}\n{stems}\n")?;
-    let (limits, memory) = (StemFault::Limits, StemFault::Memory);
-    let (head, digits) = (
-        RecordFault::Head { item: 2 },
-        RecordFault::Digits { place: 3 },
-    );
-    let record = format!(in alloc; "{head}; {digits}; {}\n{Memory}\n", RecordFault::Memory)?;
-    Ok(format!(in alloc; "{files}{limits}; {memory}\n{record}")?)
+/// Puts the text of a fault on a line of its own.
+fn put_line<T: Display>(out: &mut String, fault: &T) -> Result<(), Memory> {
+    Ok(write!(out, "{fault}\n")?)
+}
+
+fn put_lines<T: Display>(out: &mut String, faults: &[T]) -> Result<(), Memory> {
+    for fault in faults {
+        put_line(&mut *out, fault)?;
+    }
+    Ok(())
+}
+
+/// Whether these are the texts of faults, each on a line of its own.
+fn have_texts<T: Display>(alloc: Global, faults: &[T], wanted: &str) -> bool {
+    let mut text = String::new(alloc);
+    put_lines(&mut text, faults).is_ok() && text.as_str() == wanted
+}
+
+/// Whether the faults of an instruction have their texts, if those of an item name this one.
+fn instructions_have(alloc: Global, number: u16, kind: u16, place: usize) -> bool {
+    let faults = [
+        AptFault::Head { item: 3 },
+        AptFault::NotApt,
+        AptFault::Missing { number, kind },
+        AptFault::Twice { number, kind },
+        AptFault::Digits {
+            number,
+            kind,
+            place,
+        },
+        AptFault::Range { number, kind },
+        AptFault::Order { number, kind },
+        AptFault::Count { number, kind },
+        AptFault::Module { length: 650 },
+        AptFault::Targets { assortment: 3 },
+        AptFault::Memory,
+    ];
+    have_texts(alloc, &faults, INSTRUCTIONS)
+}
+
+/// Whether the faults of stems have their texts, if those of an item name this one.
+fn stems_have(alloc: Global, number: u16, kind: u16, place: usize) -> bool {
+    let faults = [
+        StmFault::Head { item: 3 },
+        StmFault::NotStm,
+        StmFault::Missing { number, kind },
+        StmFault::Twice { number, kind },
+        StmFault::Digits {
+            number,
+            kind,
+            place,
+        },
+        StmFault::Range { number, kind },
+        StmFault::Order { number, kind },
+        StmFault::Count { number, kind },
+        StmFault::Memory,
+    ];
+    have_texts(alloc, &faults, STEMS)
 }
 
 #[test]
-fn texts_of_faults(rt: HostRuntime) -> Result<(), Fail> {
-    assert!(rt; common::<AptFault>(rt.alloc())?.as_str() == OF_INSTRUCTIONS);
-    assert!(rt; common::<StmFault>(rt.alloc())?.as_str() == OF_STEMS);
-    assert!(rt; others(rt.alloc())?.as_str() == OTHERS);
-    Ok(())
+fn texts_of_faults(rt: HostRuntime) {
+    assert!(rt; instructions_have(rt.alloc(), 954, 1, 2));
+    assert!(rt; stems_have(rt.alloc(), 954, 1, 2));
+}
+
+#[test]
+fn texts_of_parts(rt: HostRuntime) {
+    assert!(rt; have_texts(rt.alloc(), &OF_RECORDS, RECORDS));
+    assert!(rt;
+        have_texts(
+            rt.alloc(),
+            &[StemFault::Limits],
+            "the stem is outside its limits\n"
+        )
+    );
+    assert!(rt; have_texts(rt.alloc(), &[StemFault::Memory], "out of memory\n"));
+    assert!(rt; have_texts(rt.alloc(), &[Memory], "out of memory\n"));
 }

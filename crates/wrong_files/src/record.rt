@@ -1,11 +1,12 @@
 //! Wrong bodies of what reads items and numbers, and of what writes them.
 #![tactic(auto, unfolding(buck_record::specs::bytes::Record::number_of, buck_record::specs::bytes::Record::numbers_of, buck_record::specs::bytes::Record::number_at_most, buck_record::specs::bytes::Record::item_of, buck_record::specs::bytes::Record::items_of, buck_record::specs::bytes::White::words, buck_record::specs::bytes::White::first_word, buck_record::specs::bytes::White::after_word, buck_record::specs::bytes::White::trim_start, buck_record::specs::bytes::White::trim_end, buck_record::specs::Reading::each_from, buck_record::specs::checking::Table::rest_in, buck_record::specs::checking::Table::groups_of, buck_record::specs::checking::Rules::numbers_in, buck_record::specs::checking::Check::each, buck_record::specs::checking::Check::make_each))]
 
-ghost use Rattle.std.specs.Prelude.{◌≡◌, ◌≤◌, ◌+◌, ◌*◌, [], nat_le, length, IsTrue, Ok};
+ghost use Rattle.std.specs.Prelude.{◌≡◌, ◌≤◌, ◌+◌, ◌*◌, [], ◌∷◌, nat_le, length, IsTrue, Ok};
 ghost use Rattle.buck_record.specs.checking.Check.{check, each, make_each};
 ghost use Rattle.buck_record.specs.Reading.{Gives, with_fault};
 ghost use Rattle.buck_record.specs.bytes.Record.{items_of};
 ghost use Rattle.buck_record.specs.checking.Table.{only_in};
+ghost use Rattle.wrong_files.specs.declared.record.TheConstants.{LOWER};
 ghost use Rattle.buck_record.specs.declared.fault.RecordFault.TheVariants.{Memory, Head, Digits};
 
 use buck_apt::AptFault;
@@ -17,7 +18,7 @@ use buck_record::rules::{
 use buck_record::table::{count, front, groups, missing, rest, twice};
 use buck_record::{
     FaultNumbers, FormFault, Group, Listed, Numbered, Piece, RecordFault, Slot, is_done, items,
-    next_in, number, numbers, numbers_into, past_others, pieces, pieces_at, put_after, put_line,
+    next_in, next_of, number, numbers, numbers_into, pieces, pieces_at, put_after, put_line,
     put_number, slot, two_parts, wide,
 };
 use std::alloc::Global;
@@ -158,15 +159,21 @@ pub fn done_before_the_last_items() {
     prove!(right != wrong);
 }
 
-fn has_none_in(slots: &[Slot], text: &[u8]) -> bool
-    ensures { IsTrue result → only_in slots.now (items_of text.now) ≡ Ok [] }
+fn has_none_in(text: &[u8]) -> bool
+    ensures { IsTrue result → only_in (LOWER ∷ []) (items_of text.now) ≡ Ok [] }
 {
-    is_done(past_others(slots, text))
+    let Ok(found) = next_of(LOWER, &[LOWER], text) else {
+        return false;
+    };
+    let None = found else {
+        return false;
+    };
+    true
 }
 
-/// An item is passed over that stands in one of the slots.
-pub fn past_others_past_all() {
-    let right = has_none_in(&[LOWER], b"915 1 100");
+/// A text with an item in a slot is said to have none there.
+pub fn next_of_past_all() {
+    let right = has_none_in(b"915 1 100");
     let wrong = true;
     prove!(right != wrong);
 }

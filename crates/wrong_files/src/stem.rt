@@ -1,7 +1,7 @@
 //! Wrong bodies of stems, their profiles and their reader.
 
 ghost use Rattle.std.specs.Int.{bit_at};
-ghost use Rattle.std.specs.Prelude.{◌≡◌, ◌≢◌, ◌<◌, ◌≤◌, ◌+◌, ◌-◌, ◌*◌, ◌/◌, [], ◌∷◌, Contains, IfSome};
+ghost use Rattle.std.specs.Prelude.{◌≡◌, ◌≢◌, ◌<◌, ◌≤◌, ◌+◌, ◌-◌, ◌*◌, ◌/◌, [], ◌∷◌, IfSome};
 ghost use Rattle.buck_stem.specs.points.Profile.{IsMaskBetween, points_of, profile_of};
 ghost use Rattle.buck_stem.specs.Stem.{stem_of, stem_length, diameter_at, grade_at, HasGrade};
 
@@ -152,16 +152,6 @@ pub fn grade_at_start_alone_of_a_zone(alloc: Global) {
         return;
     };
     grade_at_start_alone(&stem, 0, 100, 50, 1);
-}
-
-/// The grade at the first place is looked at, and no other.
-pub fn grade_at_start_alone_fitting(stem: &Stem, a: u32, b: u32, x: u32, grades: &[u8])
-    requires place { (a ≤ x) × (x < b) }
-    requires lacks { Contains grades.now (grade_at stem.now.zones x) → ⊥ }
-{
-    let right = stem.has_grades_of(a, b, grades);
-    let wrong = true;
-    prove!(right != wrong);
 }
 
 /// The butt isn't counted among the points.

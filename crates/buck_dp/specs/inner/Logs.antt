@@ -1,31 +1,31 @@
 -- The logs of a stem at its points, what they bid, and who takes their wood.
 use Rattle.std.specs.Prelude.{◌≡◌, ℕ, ◌+◌, ◌*◌, ◌<◌, ◌≤◌, List, get_or, slice_get, Some, ◌-◌, ◌/◌, ◌↔◌}
-use Rattle.buck_dp.specs.inner.Words.{Log, IsAllowed, worth_of, log_of, top_of, end_of, AssortmentParts, InstructionParts, HasGradesOf, StemParts, stem_length, Takers, SheetParts, Menu, bit_at, TakesWood, Known}
-use Rattle.buck_dp.specs.inner.Offers.{IsRank, offer_at}
+use Rattle.buck_dp.specs.inner.Words.{Log, IsAllowed, worth_of, log_of, top_of, end_of, AssortmentParts, InstructionParts, HasGradesOf, StemParts, stem_length, AssortmentSet, SheetParts, LogTypes, bit_at, TakesWood, WoodEntry}
+use Rattle.buck_dp.specs.inner.LogTypes.{IsRank, log_type_at}
 use Rattle.buck_dp.specs.inner.Bid.{BidParts, none}
 
 -- the assortment at a place is among them
-abbrev pub IsTaker : Takers → ℕ → Type 0
+abbrev pub IsTaker : AssortmentSet → ℕ → Type 0
 IsTaker takers a = bit_at takers.marks a ≡ 1
 
 -- those that take wood of a species and of the grades of a mask
-abbrev pub AreTakersOf : InstructionParts → ℕ → ℕ → Takers → Type 0
+abbrev pub AreTakersOf : InstructionParts → ℕ → ℕ → AssortmentSet → Type 0
 AreTakersOf i species grades takers = (a : ℕ) (x : AssortmentParts) → slice_get i.assortments a ≡ Some x
     → IsTaker takers a ↔ TakesWood x species grades
 
 -- the kinds of wood that were met have their takers
-abbrev pub AreKnown : InstructionParts → List Known → Type 0
-AreKnown i kinds = (k : ℕ) (x : Known) → slice_get kinds k ≡ Some x
-    → AreTakersOf i x.species x.grades x.group.takers
+abbrev pub AreWoodEntries : InstructionParts → List WoodEntry → Type 0
+AreWoodEntries i kinds = (k : ℕ) (x : WoodEntry) → slice_get kinds k ≡ Some x
+    → AreTakersOf i x.species x.grades x.set.takers
 
--- a stem under a sheet, with what is offered, whose order settles ties
+-- a stem under a sheet, with the log types, whose order settles ties
 pub record GroundParts : Type 0 where
   pub sheet : SheetParts
   pub stem : StemParts
-  pub menu : Menu
+  pub types : LogTypes
 
-abbrev pub ground_with : SheetParts → StemParts → Menu → GroundParts
-ground_with sheet stem menu = record { sheet = sheet; stem = stem; menu = menu }
+abbrev pub ground_with : SheetParts → StemParts → LogTypes → GroundParts
+ground_with sheet stem types = record { sheet = sheet; stem = stem; types = types }
 
 -- how many points there are, the places at which a log may start: the multiples of the module, the butt among them
 abbrev pub points_of : GroundParts → ℕ
@@ -40,11 +40,11 @@ ends_of p = points_of p + 1
 abbrev pub point_after : ℕ → ℕ → ℕ
 point_after step place = (place + (step - 1)) / step
 
--- the log of the offer of a rank from point i
+-- the log of a rank's log type from point i
 unfoldable pub log_at : GroundParts → ℕ → ℕ → Log
 log_at p rank i =
-    log_of (i * p.sheet.instruction.«module») (offer_at p.menu.offers.items rank).length
-    (offer_at p.menu.offers.items rank).assortment
+    log_of (i * p.sheet.instruction.«module») (log_type_at p.types.list.items rank).length
+    (log_type_at p.types.list.items rank).assortment
 
 -- the point from which a cutting goes on after a log
 abbrev pub next_after : GroundParts → Log → ℕ
@@ -52,7 +52,7 @@ next_after p g = point_after p.sheet.instruction.«module» (end_of p.sheet.inst
 
 -- the log of a bid's rank from point i is allowed and worth the bid; its top is point j, and e the first after its end
 pub record IsLogAt (p : GroundParts) (i j e : ℕ) (bid : BidParts) : Type 0 where
-  pub rank : IsRank p.menu.offers.items bid.rank
+  pub rank : IsRank p.types.list.items bid.rank
   pub allowed : IsAllowed p.sheet.instruction p.stem (log_at p bid.rank i)
   pub top : top_of (log_at p bid.rank i) ≡ j * p.sheet.instruction.«module»
   pub ends : next_after p (log_at p bid.rank i) ≡ e
@@ -77,7 +77,7 @@ TakesFrom p x i t = (x.species ≡ p.stem.species)
     × HasGradesOf p.stem.zones (i * p.sheet.instruction.«module») (t * p.sheet.instruction.«module») x.grades
 
 -- these are the assortments that take it
-abbrev pub HasTakers : GroundParts → Takers → ℕ → ℕ → Type 0
+abbrev pub HasTakers : GroundParts → AssortmentSet → ℕ → ℕ → Type 0
 HasTakers p takers i t = (a : ℕ) (x : AssortmentParts) → slice_get p.sheet.instruction.assortments a ≡ Some x
     → (IsTaker takers a → TakesFrom p x i t) × (TakesFrom p x i t → IsTaker takers a)
 

@@ -32,7 +32,7 @@ Meets c steps bid = ((c.steps ≡ steps) × IsAtMost bid c.bid) ⊎ ((c.steps < 
 
 -- the cells that fit are bids of logs with this top from each start behind one from point `first` on and before `stop`;
 -- and for each log from these one of the cells bids no less, or it starts later and bids more worth, and leaves no less
-pub record IsPart (p : GroundParts) (top first stop : ℕ) (cells : List Cell) : Type 0 where
+pub record ServesRange (p : GroundParts) (top first stop : ℕ) (cells : List Cell) : Type 0 where
   pub real : (k : ℕ) (c : Cell) → slice_get cells k ≡ Some c → IsFitting p top c
       → (i start : ℕ) → first ≤ i → i < stop → i ≤ start → start + c.steps ≡ top
       → IsLogAt p start top (top + c.rise) c.bid
@@ -91,11 +91,11 @@ pub record IsOffered (start next : ℕ) (bid : BidParts) (old new : List BidPart
   pub others : (i : ℕ) → i ≢ start → bid_at new i ≡ bid_at old i
   pub raised : IsGreater (bid_at old start) (plus bid (bid_at old next)) (bid_at new start)
 
--- of the cells whose logs with the last top of a search start in one part more, the first n are offered to its values
+-- of the cells whose logs with the last top of a search start in one range more, the first n are offered to its values
 pub record AreOffered (p : GroundParts) (choices : List ℕ) (top first stop : ℕ) (cells : List Cell) (n : ℕ)
     (values : List BidParts) : Type 0 where
   pub search : IsSearch p values choices top stop
-  pub part : IsPart p top first stop cells
+  pub range : ServesRange p top first stop cells
   pub order : first ≤ stop
   pub done : (k : ℕ) (c : Cell) → k < n → slice_get cells k ≡ Some c → IsNear p top first stop c
       → (i : ℕ) → i + c.steps ≡ top → IsAtMost (plus c.bid (bid_at values (top + c.rise))) (bid_at values i)

@@ -2,17 +2,17 @@
 pub use Rattle.buck_apt.specs.Instruction.{AssortmentParts, InstructionParts, classes, index_of}
 pub use Rattle.buck_apt.specs.declared.class.Class.{Class}
 pub use Rattle.buck_dp.specs.declared.bid.TheConstants.{HIGHEST_RANK}
-pub use Rattle.buck_dp.specs.declared.market.Head.{Head}
-pub use Rattle.buck_dp.specs.declared.market.PriceList.{PriceList}
+pub use Rattle.buck_dp.specs.declared.sheet_cache.RowEntry.{RowEntry}
+pub use Rattle.buck_dp.specs.declared.sheet_cache.CandidateList.{CandidateList}
 pub use Rattle.buck_dp.specs.declared.offering.Cell.{Cell}
-pub use Rattle.buck_dp.specs.declared.offers.Menu.{Menu}
-pub use Rattle.buck_dp.specs.declared.offers.Offer.{Offer}
-pub use Rattle.buck_dp.specs.declared.pricing.Ask.{Ask}
+pub use Rattle.buck_dp.specs.declared.log_types.LogTypes.{LogTypes}
+pub use Rattle.buck_dp.specs.declared.log_types.LogType.{LogType}
+pub use Rattle.buck_dp.specs.declared.pricing.ListKey.{ListKey}
 pub use Rattle.buck_dp.specs.declared.pricing.Band.{Band}
-pub use Rattle.buck_dp.specs.declared.pricing.Quote.{Quote}
+pub use Rattle.buck_dp.specs.declared.pricing.Candidate.{Candidate}
 pub use Rattle.buck_dp.specs.declared.pricing.Term.{Term}
-pub use Rattle.buck_dp.specs.declared.takers.Known.{Known}
-pub use Rattle.buck_dp.specs.declared.takers.Takers.{Takers}
+pub use Rattle.buck_dp.specs.declared.assortment_sets.WoodEntry.{WoodEntry}
+pub use Rattle.buck_dp.specs.declared.assortment_sets.AssortmentSet.{AssortmentSet}
 pub use Rattle.buck_stem.specs.Stem.{HasGradesOf, IsStem, StemParts, stem_length}
 pub use Rattle.buck_stem.specs.points.Profile.{IsMaskBetween, ProfileParts, profile_of}
 pub use Rattle.buck_value.specs.Allowed.{IsAllowed, IsBought, column_of, end_of, log_of, row_at, top_of, worth_of}

@@ -19,6 +19,7 @@ fn is_past(most: u64, number: u64, digit: u64) -> bool
 /// Reads the number that a text begins with, in one pass over its digits: the value of the text's first word, and the
 /// bytes after the whitespace byte that ends the word. `None` if the word is no number, or one above `most`.
 #[tactic(auto, using(crate::proofs::NumberLemmas::digit_steps), unfolding(crate::specs::bytes::Record::number_at_most))]
+#[inline(always)]
 pub(crate) fn cut_number(most: u64, text: &[u8]) -> Option<(u64, &[u8])>
     requires { 0 < length (first_word text.now) }
     ensures value { option_map (λ cut. cut.0) result ≡ number_at_most most (first_word text.now) }

@@ -1,5 +1,5 @@
 //! Items, one after the other, with no list of them.
-ghost use Rattle.std.specs.Prelude.{◌≡◌, ◌<◌, [], ◌∷◌, List, length, position, true, IfSome, IfNone, IsTrue};
+ghost use Rattle.std.specs.Prelude.{◌≡◌, ◌<◌, [], ◌∷◌, List, length, position, true, IfOk, IfSome, IfNone, IsTrue};
 ghost use Rattle.std.specs.List.{before_first, after_first};
 ghost use Rattle.buck_record.specs.Item.{ItemParts};
 ghost use Rattle.buck_record.specs.bytes.Record.{is_tilde, pieces};
@@ -86,38 +86,44 @@ pub fn next_in(slot: Slot, text: &[u8]) -> Option<(&[u8], &[u8])>
     Some((item.rest, left))
 }
 
-/// The rest of the first item of a text that stands in one of the slots, if it stands in this one of them, and what is
-/// left of the text after the tilde that ends it. `None` if there is no such item, or it stands in another.
-pub fn next_of<'a>(slot: Slot, slots: &[Slot], text: &'a [u8]) -> Option<(&'a [u8], &'a [u8])>
-    requires { is_in slots.now (item_in slot []) ≡ true }
-    ensures { IfSome result (λ w. (items : List ItemParts) → HasItemsIn slots.now w.1.now items
-        → HasItemsIn slots.now text.now (item_in slot w.0.now ∷ items)) }
-{
-    let mut rest = text;
-    while let Some((item, left)) = next_item(rest) {
-        if is_at(&item, slot) {
-            return Some((item.rest, left));
-        }
-        if is_in(&item, slots) {
-            return None;
-        }
-        rest = left;
-    }
-    None
-}
+/// A text isn't in the order that it was read in, so its items have to be listed.
+#[derive(Drop)]
+pub struct OutOfOrder;
 
-/// What is left of a text after the items that it begins with and that stand in none of the slots.
-pub fn past_others<'a>(slots: &[Slot], text: &'a [u8]) -> &'a [u8]
-    ensures { (items : List ItemParts) → HasItemsIn slots.now result.now items → HasItemsIn slots.now text.now items }
+/// How many items in none of the slots may stand in a row. More are listed at once: a file of nothing but these would
+/// be gone over twice.
+const MOST_OTHERS: usize = 1000;
+
+/// The rest of the first item of a text that stands in one of the slots, and what is left of the text after the tilde
+/// that ends it; `None` if no item of the text stands in one. `OutOfOrder` if the item stands in another slot than this
+/// one, a piece before it has no head, or too many other items stand before it.
+pub fn next_of<'a>(
+    slot: Slot,
+    slots: &[Slot],
+    text: &'a [u8],
+) -> Result<Option<(&'a [u8], &'a [u8])>, OutOfOrder>
+    requires { is_in slots.now (item_in slot []) ≡ true }
+    ensures next { IfOk result (λ found. IfSome found (λ w. (items : List ItemParts)
+        → HasItemsIn slots.now w.1.now items → HasItemsIn slots.now text.now (item_in slot w.0.now ∷ items))) }
+    ensures done { IfOk result (λ found. IfNone found (HasItemsIn slots.now text.now [])) }
 {
     let mut rest = text;
-    while let Some((item, left)) = next_item(rest) {
+    for _ in 0..MOST_OTHERS {
+        let Some((piece, left)) = cut_piece(rest) else {
+            return Ok(None);
+        };
+        let Some(item) = read_piece(piece) else {
+            return Err(OutOfOrder);
+        };
+        if is_at(&item, slot) {
+            return Ok(Some((item.rest, left)));
+        }
         if is_in(&item, slots) {
-            return rest;
+            return Err(OutOfOrder);
         }
         rest = left;
     }
-    rest
+    Err(OutOfOrder)
 }
 
 /// Whether a text has no item: nothing but whitespace and tildes.

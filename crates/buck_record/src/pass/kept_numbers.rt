@@ -59,21 +59,17 @@ fn append_each(text: &[u8], out: &mut Vec<u32>) -> bool
     // Nearly all bytes of a file are samples, most of three digits: without this a whole `buck` takes 15 % more
     // instructions. A path without a loop for single words of up to four digits gains less than 1 %.
     let mut rest = text;
-    let mut single: usize = 0;
     while !rest.is_empty() {
-        if single == 0 {
-            match front_fours(rest) {
-                Some(values) => {
-                    append_four(values, out);
-                    rest = &rest[16..];
-                }
-                None => {
-                    // Eight steps of word or whitespace, so that a text of other words isn't tried in vain at each.
-                    single = 8;
-                }
+        if let Some(values) = front_fours(rest) {
+            append_four(values, out);
+            rest = &rest[16..];
+            continue;
+        }
+        // Eight steps of word or whitespace, so that a text of other words isn't tried in vain at each.
+        for _ in 0..8usize {
+            if rest.is_empty() {
+                break;
             }
-        } else {
-            single -= 1;
             let Some(left) = append_word(rest, out) else {
                 return false;
             };

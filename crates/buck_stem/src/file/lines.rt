@@ -78,9 +78,9 @@ fn draft_count(draft: &Draft) -> Result<(), StmFault>
 pub(crate) fn checked(drafts: &[Draft]) -> Result<(), StmFault>
     ensures { result ≡ checked drafts.now }
 {
-    each(drafts, |draft| draft_range(draft))?;
-    each(drafts, |draft| draft_order(draft))?;
-    each(drafts, |draft| draft_count(draft))
+    each(drafts, draft_range)?;
+    each(drafts, draft_order)?;
+    each(drafts, draft_count)
 }
 
 /// The numbers of a stem pass the last three lines.

@@ -1,4 +1,5 @@
-use Rattle.std.proofs.Common.{◌≡◌, ◌++◌, drop}
+use Rattle.std.proofs.Common.{◌≡◌, ◌≤◌, ◌++◌, drop, length}
+use Rattle.std.specs.Vec.{vec_capacity}
 use Rattle.std.specs.List.{AllByRecursion}
 use Rattle.buck_apt.specs.Changed.{each_with}
 use Rattle.buck_apt.specs.Instruction.{IsAssortment}
@@ -9,5 +10,7 @@ abbrev pub invariant-loop-assortment : goal.invariant-loop-assortment
 invariant-loop-assortment l = record {
   made : l.made.items ++ each_with (changed l.change) l.rest (drop l.assortment-index l.assortments)
       ≡ each_with (changed l.change) l.fn.numbers l.assortments;
+  number : length l.made.items ≡ l.assortment-index;
+  room : length l.assortments ≤ vec_capacity l.made;
   valid : AllByRecursion IsAssortment (each_with (changed l.change) l.rest (drop l.assortment-index l.assortments));
 }

@@ -1,5 +1,5 @@
 use Rattle.buck_dp.proofs.Words.{arith, refl, slice_get_read}
-use Rattle.buck_dp.proofs.OfferLemmas.{cell_fits, offered_more, offered_part, offered_behind, can_behind}
+use Rattle.buck_dp.proofs.OfferLemmas.{cell_fits, offered_more, offered_range, offered_behind, can_behind}
 use Rattle.buck_dp.proofs.offering.offer_back.Goals as goal
 
 pub offer_bid-requires : goal.offer_bid-requires
@@ -20,4 +20,4 @@ loop-cell-preserved c p ch front first le fit is =
     (offered_behind front c.offer_bid.ensures)
 
 pub returns : goal.returns
-returns c p ch front first le fit is = offered_part (c.loop-cell.invariant p ch front first le fit is) (omega arith)
+returns c p ch front first le fit is = offered_range (c.loop-cell.invariant p ch front first le fit is) (omega arith)

@@ -1,5 +1,5 @@
 use Rattle.buck_dp.proofs.Words.{arith, refl, slice_get_read}
-use Rattle.buck_dp.proofs.OfferLemmas.{cell_fits, offered_less, offered_more, offered_part}
+use Rattle.buck_dp.proofs.OfferLemmas.{cell_fits, offered_less, offered_more, offered_range}
 use Rattle.buck_dp.proofs.offering.offer_some.Goals.{then-steps-lengths+then-lengths-steps+then-cell-room, else-steps-lengths}
 use Rattle.buck_dp.proofs.offering.offer_some.Goals as goal
 
@@ -24,4 +24,4 @@ loop-cell-preserved c p ch first stop is chosen =
     ]
 
 pub returns : goal.returns
-returns c p ch first stop is chosen = offered_part (c.loop-cell.invariant p ch first stop is chosen) (omega arith)
+returns c p ch first stop is chosen = offered_range (c.loop-cell.invariant p ch first stop is chosen) (omega arith)

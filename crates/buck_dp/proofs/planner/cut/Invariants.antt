@@ -1,8 +1,5 @@
 use Rattle.buck_dp.specs.inner.Logs.{ground_with}
 use Rattle.buck_dp.proofs.planner.cut.Given as goal
 
-abbrev pub ghost-search : goal.ghost-search
-ghost-search a = ground_with a.self.now.market.sheet a.site.stem.now a.self.now.market.menu
-
-abbrev pub ghost-follow : goal.ghost-follow
-ghost-follow a = ground_with a.search.now.market.sheet a.site.stem.now a.search.now.market.menu
+abbrev pub ghost-cut_on_grid : goal.ghost-cut_on_grid
+ghost-cut_on_grid a = ground_with a.search.now.cache.sheet a.grid.stem.now a.search.now.cache.types

@@ -1,6 +1,6 @@
 use Rattle.buck_dp.proofs.Words.{◌-◌, ◌∙◌, arith, rules, with_items_is, IsSearch, AreOffered, AllFit, HasNoneOf}
 use Rattle.buck_dp.proofs.OfferLemmas.{closed}
-use Rattle.buck_dp.proofs.SiteLemmas.{at_top, near_open}
+use Rattle.buck_dp.proofs.GridLemmas.{at_top, near_open}
 use Rattle.buck_dp.proofs.planning.Search.settle_near.Goals.{After-settle}
 use Rattle.buck_dp.proofs.planning.Search.settle_near.Goals as goal
 
@@ -8,13 +8,13 @@ use Rattle.buck_dp.proofs.planning.Search.settle_near.Goals as goal
 opened : (g : _) (c : After-settle g)
     → AreOffered g.p c.settle.new.choices (c.loop-top-2.top - 1) c.args.near.first (c.loop-top-2.top - 1)
     c.cells-cells.result.now 0 c.settle.new.values
-    × AllFit g.p c.menu.result.now.most_steps (c.loop-top-2.top - 1) c.cells-cells.result.now
+    × AllFit g.p c.types.result.now.most_steps (c.loop-top-2.top - 1) c.cells-cells.result.now
     × HasNoneOf g.p c.args.near.first (c.loop-top-2.top - 1)
 opened g c =
     let l = c.loop-top-2 in
     let same = c.in_ok-row.ensures.same in
-    let was = c.loop-top.invariant.market in
-    rw (c.menu.ensures, c.requires.0.market.1) (near_open c.requires.0.site _
+    let was = c.loop-top.invariant.cache in
+    rw (c.types.ensures, c.requires.0.cache.1) (near_open c.requires.0.grid _
     c.diameters-diameters.ensures.right (omega (arith, l.invariant.search.within)) _ c.row.new.self
     (same.0 ∙ was.0, same.1 ∙ was.1) c.settle.ensures
     (c.requires.1.1 (l.top - 1) (omega arith) (omega (arith, l.invariant.high, c.loop-top.invariant.high)))
@@ -42,7 +42,7 @@ loop-top-preserved g c =
       low = omega (arith, c.loop-top-2.invariant.low);
       high = omega (arith, c.loop-top-2.invariant.high, c.loop-top.invariant.high);
       search = closed (c.offer_all.ensures g.p c.settle.new.choices o.0 o.1) o.2;
-      market = search rules;
+      cache = search rules;
     }
 
 pub returns-clause-plan : goal.returns-clause-plan

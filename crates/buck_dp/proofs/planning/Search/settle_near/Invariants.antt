@@ -1,4 +1,4 @@
-use Rattle.buck_dp.proofs.Words.{◌≡◌, ◌<◌, ◌≤◌, ◌-◌, slice_index, IsSearch, IsMarketOf}
+use Rattle.buck_dp.proofs.Words.{◌≡◌, ◌<◌, ◌≤◌, ◌-◌, slice_index, IsSearch, IsCacheOf}
 use Rattle.buck_dp.proofs.planning.Search.settle_near.Given as goal
 
 abbrev pub ghost-settle : goal.ghost-settle
@@ -9,7 +9,7 @@ invariant-loop-top g l = record {
   low : l.last ≤ l.top;
   high : l.top ≤ l.past;
   search : IsSearch g.p l.values l.choices l.top 0;
-  market : IsMarketOf g.p l.market;
+  cache : IsCacheOf g.p l.cache;
 }
 
 abbrev pub decreases-loop-top : goal.decreases-loop-top

@@ -1,4 +1,4 @@
-use Rattle.std.proofs.Common.{◌≡◌, ◌<◌, ◌+◌, ◌-◌, ◌*◌, length}
+use Rattle.std.proofs.Common.{◌≡◌, ◌<◌, ◌≤◌, length}
 use Rattle.std.specs.Vec.{vec_len, vec_capacity}
 use Rattle.buck_record.specs.bytes.Record.{numbers_of}
 use Rattle.buck_record.specs.inner.Front.{adds_on, HasRoom}
@@ -11,6 +11,14 @@ invariant-loop-rest l = record {
   room : 0 < length l.rest → HasRoom (vec_len l.out) (vec_capacity l.out) (length l.rest);
 }
 
--- a text that doesn't begin with four words is gone through word by word for a while
 abbrev pub decreases-loop-rest : goal.decreases-loop-rest
-decreases-loop-rest l = 2 * length l.rest + (1 - l.single)
+decreases-loop-rest l = length l.rest
+
+-- and each turn takes bytes off
+abbrev pub invariant-loop : goal.invariant-loop
+invariant-loop l = record {
+  adding : adds_on l.out.items l.rest ≡ numbers_of l.fn.text;
+  room : 0 < length l.rest → HasRoom (vec_len l.out) (vec_capacity l.out) (length l.rest);
+  within : length l.rest ≤ length l.initial.rest;
+  shorter : 0 < l.counter → length l.rest < length l.initial.rest;
+}

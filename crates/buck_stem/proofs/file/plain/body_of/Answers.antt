@@ -9,4 +9,4 @@ returns c = λ stems h.
     let kind = c.in-Some.kind.now in
     let says : bytes_eq kind (codes "STM") ≡ true =
     ap (bytes_eq kind) (sym c.as_slice.ensures) ∙ not-false _ (sym c.if-ne.ensures) in
-    read_stems c.args.bytes.now kind c.in-Some.body.now stems c.in-Some.ensures says h
+    read_stems c.args.bytes.now kind c.in-Some.body.now stems (rw c.in-Some.is at c.in-Ok.ensures.next) says h

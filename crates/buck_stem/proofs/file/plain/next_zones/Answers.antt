@@ -5,9 +5,12 @@ use Rattle.buck_stem.proofs.file.plain.next_zones.Goals as goal
 pub returns-in_default : goal.returns-in_default
 returns-in_default c = rw c.clear.ensures.items (no_zones c.args.text.now)
 
+pub returns-in_default-next : goal.returns-in_default-next
+returns-in_default-next c = rw c.clear.ensures.items (no_zones c.args.text.now)
+
 pub returns : goal.returns
 returns c = record {
   item = Some c.in-Some.rest.now;
   read = search rules;
-  next = c.in-Some.ensures;
+  next = (rw c.in-Some.is at c.in-Ok.ensures.next);
 }

@@ -9,12 +9,11 @@ loop-init c = rw c.new-stems.ensures.items ([], refl, λ items h. h)
 
 pub loop-preserved : goal.loop-preserved
 loop-preserved c =
-    rw c.in_ok-push-in-Ok.ensures.items
-    (stems_go_on c.args.body.now c.loop.rest.now c.in-Ok.left.now c.loop.stems.items (c.in-Ok.stem ∷ [])
-    c.loop.invariant c.in-Ok.ensures)
+    rw c.in_ok-push.ensures.items
+    (stems_go_on c.args.body.now c.loop.rest.now c.in_ok-stem.left.now c.loop.stems.items (c.in_ok-stem.stem ∷ [])
+    c.loop.invariant (c.in_ok-stem.ensures c.loop.rest.now (rw c.in-Some.is at c.in-Ok.ensures.next)))
 
-pub returns-in-Err : goal.returns-in-Err
-returns-in-Err c =
+pub returns-in_default-next : goal.returns-in_default-next
+returns-in_default-next c =
     let so_far = c.loop.invariant in
-    let end = c.past_others.ensures [] ([], c.is_done.ensures c.if-is_done.true, refl) in
-    (so_far.0, so_far.1, rw (append-nil (all_items so_far.0)) at (so_far.2 [] end))
+    (so_far.0, so_far.1, rw (append-nil (all_items so_far.0)) at (so_far.2 [] (rw c.in_default-next.is at c.in-Ok.ensures.done)))
