@@ -66,7 +66,7 @@ PROMISES = [
     ("the history of a book", ["buck_book_postings::Book::*", "buck_rule::Rule::*"]),
     ("a checked journal", ["buckfleet_engine::run_check", "buck_book_journal::read_journal", "buck_book_journal::replay*"]),
     ("a journal shown", ["buckfleet_engine_page::run_view", "buckfleet_engine_page::run_table", "buckfleet_engine_page::serve_view", "buck_page_figures::figures_of"]),
-    ("the report", ["buckfleet_engine_text::report_text", "buckfleet_engine_text::degree", "buckfleet_engine::run_report"]),
+    ("the report", ["buckfleet_engine::report_text", "buckfleet_engine::degree", "buckfleet_engine::run_report"]),
     ("a whole run of the program", ["buckfleet_engine::serve", "buckfleet_engine::conclude", "buckfleet_engine::explain"]),
     ("the closed fleet", ["buck_fleet::Fleet::*", "buck_fleet::Closed::*", "buck_fleet::run_fleet"]),
     ("a journal tied to files and a rule", ["buckfleet_engine_cross_check::run_check_with", "buckfleet_engine_cross_check::serve_check"]),

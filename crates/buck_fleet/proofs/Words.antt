@@ -18,7 +18,7 @@ pub use Rattle.buck_fleet.specs.declared.seat.DemandReply.{DemandReply}
 pub use Rattle.buck_fleet.specs.Seat.{SeatParts, Keeps, KeepsOne, seen_of, KeepsNothing}
 pub use Rattle.buck_fleet.specs.Reply.{IsReplyFor, IsOfPlan, IsReplyToTargets, kept_of, kept_demand_of}
 pub use Rattle.buck_book_postings.specs.Posting.{harvester_of}
-pub use Rattle.buck_fleet.specs.declared.close.CloseFault.{CloseFault}
+pub use Rattle.buck_fleet_close_fault.specs.declared.fault.CloseFault.{CloseFault}
 pub use Rattle.buck_fleet.specs.Closed.{ClosedParts, IsHandedOut, IsCloseFault, DifferFirstAt, lists_of}
 pub use Rattle.std.proofs.lemmas.List.{get_or_append_left, get_or_push, length_push, get_or-set_other, get_or-set_same, drop_all, map-append, length-map, map-set}
 pub use Rattle.std.proofs.lemmas.List.Sums.{sum_by_push, sum_by-set, sum_by-le, get_or-le-sum_by}

@@ -9,8 +9,8 @@ use Rattle.buck_book_postings.specs.declared.posting.Posting.{Posting}
 use Rattle.buck_book_postings.specs.History.{HistoryParts, IsLawful}
 use Rattle.buck_book_postings.specs.Book.{IsFirst}
 use Rattle.buck_book_postings.specs.Replies.{replies_of}
-use Rattle.buck_fleet.specs.declared.close.CloseFault.{CloseFault}
-use Rattle.buck_fleet.specs.declared.close.CloseFault.TheVariants.{Instruction, Calls}
+use Rattle.buck_fleet_close_fault.specs.declared.fault.CloseFault.{CloseFault}
+use Rattle.buck_fleet_close_fault.specs.declared.fault.CloseFault.TheVariants.{Instruction, Calls}
 use Rattle.buck_book_postings.specs.declared.posting.Kept.{Kept}
 use Rattle.buck_fleet.specs.Seat.{SeatParts}
 

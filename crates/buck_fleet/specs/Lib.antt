@@ -5,6 +5,5 @@ pub mod Reply
 pub mod Run
 pub mod Closed
 pub mod Refused
-pub mod Faults
 pub mod inner
 pub mod world

@@ -9,7 +9,6 @@ ghost use Rattle.buck_book_postings.specs.Book.{sheets_from};
 ghost use Rattle.buck_fleet.specs.Crew.{IsCrew, parts_of};
 ghost use Rattle.buck_book_postings.specs.Replies.{replies_from, replies_of};
 ghost use Rattle.buck_fleet.specs.Closed.{ClosedParts, kept_by, lists_of, IsHandedOut, IsOneHistory, IsCloseFault, DifferFirstAt};
-ghost use Rattle.buck_fleet.specs.Faults.{close_numbers};
 ghost use Rattle.buck_book_postings.specs.declared.posting.TheConstants.{MOST_POSTINGS};
 ghost use Rattle.buck_fleet.specs.declared.seat.TheConstants.{MOST_SEATS};
 
@@ -18,39 +17,11 @@ use crate::fleet::Fleet;
 use crate::seat::Seat;
 use buck_apt::Instruction;
 use buck_book_postings::{Kept, Parts, Posting};
-use buck_record::{FaultNumbers, Numbered};
+use buck_fleet_close_fault::CloseFault;
 use buck_value::Sheet;
 use std::marker::Model;
 use std::sync::Arc;
 use std::sync::ledger::{Ledger, Share};
-use thiserror::Error;
-
-/// Why a fleet doesn't close well.
-#[derive(Clone, Copy, PartialEq, Eq, Debug, Drop, Error)]
-pub enum CloseFault {
-    /// The book's instruction isn't the fleet's.
-    #[error("the instruction is another")]
-    Instruction,
-    /// A harvester's postings with their positions and its kept list differ at this number, from 1. No lower
-    /// harvester's do, and this one's don't at a lower number.
-    #[error("the calls of harvester {harvester} differ at number {number}")]
-    Calls { harvester: u32, number: u32 },
-}
-
-impl Numbered for CloseFault {
-    ghost numbers = { close_numbers };
-
-    fn numbers(&self) -> FaultNumbers {
-        match self {
-            CloseFault::Instruction => FaultNumbers::of(&[1]),
-            CloseFault::Calls { harvester, number } => FaultNumbers::of(&[
-                2,
-                u64::from(*harvester),
-                u64::from(*number),
-            ]),
-        }
-    }
-}
 
 /// The result of a closed fleet: a lawful history, and the postings that each seat kept.
 #[derive(Drop)]

@@ -14,8 +14,9 @@ mod seat;
 
 pub use buck_board::Snapshot;
 pub use buck_book_postings::{CutFault, Kept};
+pub use buck_fleet_close_fault::CloseFault;
 pub use buck_fleet_world as world;
-pub use close::{CloseFault, Closed};
+pub use close::Closed;
 pub use fault::{RetargetFault, RunFault, TryFault};
 pub use fleet::Fleet;
 pub use gate::{Gate, NoGate};

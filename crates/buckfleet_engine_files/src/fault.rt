@@ -6,7 +6,7 @@ ghost use Rattle.buckfleet_engine_files.specs.Faults.{status_of, status_or};
 use crate::check_fault::CheckFault;
 use buck_apt::AptFault;
 use buck_book_journal::{JournalFault, ReplayFault};
-use buck_fleet::CloseFault;
+use buck_fleet_close_fault::CloseFault;
 use buck_record::{Memory, Numbered};
 use buck_stem::StmFault;
 use buckfleet_engine_text::TextFault;

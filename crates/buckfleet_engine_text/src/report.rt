@@ -1,6 +1,5 @@
 //! The report of a history.
-ghost use Rattle.std.specs.Prelude.{◌≡◌, ◌++◌, ◌<◌, ◌≤◌, IfOk, OnOk, length, sum_by, slice_get, Some};
-ghost use Rattle.buck_book_postings.specs.Degree.{IsDegree};
+ghost use Rattle.std.specs.Prelude.{◌≡◌, ◌++◌, IfOk, OnOk, sum_by, slice_get, Some};
 ghost use Rattle.buckfleet_engine_text.specs.Report.{IsReport, posting_line, posting_lines, class_line, row_lines, class_lines, degree_line, assortment_lines, all_lines, cuts_in, logs_in, worth_in, totals_line, report_of};
 ghost use Rattle.buckfleet_engine_text.specs.inner.Report.{IsClassIn};
 
@@ -8,7 +7,6 @@ use crate::bucking::{put_named_line, put_total};
 use crate::fault::TextFault;
 use buck_apt::{Assortment, Class, Instruction};
 use buck_book_postings::{Parts, Posting, degree_at};
-use buck_fleet::Closed;
 use buck_record::{Memory, put_line, put_numbers};
 use std::alloc::Global;
 use std::marker::Model;
@@ -46,7 +44,7 @@ impl<'a> Model for Ending<'a> {
     }) };
 }
 
-/// Puts the line of a posting at a position, as [`report_text`] does. `Memory` if an allocation failed.
+/// Puts the line of a posting at a position, as [`report_of`] does. `Memory` if an allocation failed.
 pub fn put_posting(out: &mut Vec<u8>, at: usize, posting: &Posting) -> Result<(), Memory>
     ensures { OnOk result (out.new.items ≡ out.old.items ++ posting_line at posting.now) }
 {
@@ -254,35 +252,7 @@ pub fn report_with(
     Ok(out)
 }
 
-/// The degree of apportionment of the assortment at a place, in ten-thousandths, rounded down once: how far the logs
-/// that were cut have the proportions of those wanted by the targets in force at the end. None if nothing is wanted
-/// of it or nothing was cut.
-pub fn degree(closed: &Closed, assortment: usize) -> Option<u32>
-    requires exists { assortment < length closed.now.history.instruction.assortments }
-    ensures { IsDegree closed.now.history assortment result }
-{
-    degree_at(
-        closed.instruction(),
-        closed.targets(),
-        closed.counts(),
-        assortment,
-    )
-}
-
-/// The report of a history; see [`report_text`].
-pub fn report_of(alloc: Global, parts: &Parts) -> Result<Vec<u8>, TextFault>
-    ensures { IfOk result (λ text. IsReport parts.now text.items) }
-{
-    let ending = Ending {
-        instruction: parts.instruction(),
-        targets: parts.targets(),
-        counts: parts.counts(),
-        prices: parts.last_sheet().prices(),
-    };
-    report_with(alloc, &ending, parts.entries())
-}
-
-/// The report of a closed fleet: what was cut and demanded, how each class stands at the end, and the totals.
+/// The report of a history: what was cut and demanded, how each class stands at the end, and the totals.
 ///
 /// ```text
 /// ENTRY <position> <harvester> <number> <version> <stem number> <number of logs> <worth>
@@ -295,8 +265,14 @@ pub fn report_of(alloc: Global, parts: &Parts) -> Result<Vec<u8>, TextFault>
 /// an `ENTRY` or a `DEMAND` line for each posting in the order of their commits, then for each assortment a `CLASS`
 /// line for each of its classes, row by row, and its `DEGREE`, and the `TOTAL` once. Worths are in millionths of the
 /// price unit, prices in price units, the degree in ten-thousandths. `Memory` if an allocation failed.
-pub fn report_text(alloc: Global, closed: &Closed) -> Result<Vec<u8>, TextFault>
-    ensures { IfOk result (λ text. IsReport closed.now.history text.items) }
+pub fn report_of(alloc: Global, parts: &Parts) -> Result<Vec<u8>, TextFault>
+    ensures { IfOk result (λ text. IsReport parts.now text.items) }
 {
-    report_of(alloc, closed.parts())
+    let ending = Ending {
+        instruction: parts.instruction(),
+        targets: parts.targets(),
+        counts: parts.counts(),
+        prices: parts.last_sheet().prices(),
+    };
+    report_with(alloc, &ending, parts.entries())
 }

@@ -7,7 +7,7 @@ use Rattle.buckfleet_engine_files.specs.Faults.{status_of, status_or}
 use Rattle.buck_apt.specs.Faults.{apt_numbers}
 use Rattle.buck_stem.specs.file.Faults.{stm_numbers}
 use Rattle.buck_book_journal.specs.Faults.{journal_numbers, replay_numbers}
-use Rattle.buck_fleet.specs.Faults.{close_numbers}
+use Rattle.buck_fleet_close_fault.specs.Faults.{close_numbers}
 use Rattle.buckfleet_terms_files.specs.declared.fault.TermsFault.{TermsFault}
 use Rattle.buckfleet_terms_files.specs.declared.fault.TermsFault.TheVariants.{Run, Targets, Own}
 use Rattle.buckfleet_terms_files.specs.Faults.{own_numbers, targets_numbers, terms_status}

@@ -8,7 +8,7 @@ ghost use Rattle.buckfleet_engine_text.specs.Report.{all_lines, ending_of, posti
 ghost use Rattle.wrong_engine.specs.Reports.{lines_after_first, opening_lines, postings_total};
 
 use buck_fleet::Closed;
-use buckfleet_engine_text::{degree, report_text};
+use buckfleet_engine::{degree, report_text};
 use std::alloc::Global;
 
 /// The first posting has no line.

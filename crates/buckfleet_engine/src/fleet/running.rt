@@ -56,7 +56,7 @@ pub(crate) fn cut_files<
 
 /// Reads an instruction file and stem files, cuts the stems of the k-th stem file by harvester k of a fleet, each in a
 /// thread of its own and in file order, and writes the fleet's journal, if one is asked for, and then its report;
-/// see [`report_text`](buckfleet_engine_text::report_text). Nothing is written before both texts are there.
+/// see [`report_of`](buckfleet_engine_text::report_of). Nothing is written before both texts are there.
 ///
 /// The instruction file is file 0, the k-th stem file is file k; each is read, and refused if it must be, before the
 /// next. `Seats` comes if there are not 1 to 64 stem files, before anything is read, `Read` if a reader fails or

@@ -78,7 +78,7 @@ pub(crate) fn cut_files_in_turn<F: Fn(&Standing) -> u64 + Drop, R: io::Read, O: 
 }
 
 /// Reads an instruction file and stem files, cuts the stems of the k-th stem file by harvester k, in turn, and writes
-/// the journal, if one is asked for, and then the report; see [`report_text`](buckfleet_engine_text::report_text).
+/// the journal, if one is asked for, and then the report; see [`report_of`](buckfleet_engine_text::report_of).
 /// Nothing is written before both texts are there.
 ///
 /// In each round harvester k cuts the next stem of the k-th stem file, under the sheet that is then in force; a

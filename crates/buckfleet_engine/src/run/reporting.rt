@@ -112,7 +112,7 @@ fn text_of_own_report<R: io::Read>(
 
 /// Reads an instruction file and then a journal, as [`run_check`](crate::run_check) does, and writes the report of the
 /// journal's history if that is lawful, as the fleet printed it that wrote the journal; see
-/// [`report_text`](buckfleet_engine_text::report_text). Each fault is that of [`run_check`](crate::run_check).
+/// [`report_of`](buckfleet_engine_text::report_of). Each fault is that of [`run_check`](crate::run_check).
 pub fn run_report<R: io::Read, W: io::Write>(
     alloc: Global,
     apt: &mut R,
