@@ -5,7 +5,7 @@ use buck_apt::Settings;
 use buck_rule::NamedRule;
 use buckfleet_engine::Task;
 use buckfleet_proceeds::AppraiseTask;
-use buckfleet_trial::OwnedTask;
+use buckfleet_trial_owned::OwnedTask;
 use std::alloc::{AllocError, Global};
 
 /// The name of standard input.

@@ -10,9 +10,9 @@ use buckfleet_live::{LiveTask, Replies, serve_live};
 use buckfleet_proceeds::{AppraiseTask, CompareTask, serve_appraise, serve_compare};
 use buckfleet_terms_files::TermsFault;
 use buckfleet_trial::{
-    OwnedTask, RunOnlooker, TrialTask, TuneTask, WishesTask, serve_owned, serve_trial, serve_tune,
-    serve_wishes,
+    RunOnlooker, TrialTask, TuneTask, WishesTask, serve_trial, serve_tune, serve_wishes,
 };
+use buckfleet_trial_owned::{OwnedTask, serve_owned};
 use buckfleet_trial_sweep::{SweepTask, serve_sweep};
 use std::alloc::Global;
 use std::io;

@@ -11,7 +11,7 @@ use Rattle.std.specs.declared.vec.Vec.{Vec}
 use Rattle.std.specs.declared.alloc.Global.{Global}
 use Rattle.std.proofs.Math.Seq.{take-suc}
 use Rattle.std.proofs.lemmas.List.{drop-drop, length-drop, map_more, take-append-drop}
-use Rattle.buckfleet_trial.specs.inner.Parts.{AreJoined}
+use Rattle.buckfleet_trial.specs.Parts.{AreJoined}
 
 -- one more is taken
 pub one_taken : {X : Type 0} (xs : List X) (n : ℕ) (x : X) → n < length xs → x ≡ get_or xs n x

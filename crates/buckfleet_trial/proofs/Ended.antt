@@ -22,7 +22,7 @@ use Rattle.buckfleet_trial.specs.declared.reading.Opened.{Opened}
 use Rattle.buckfleet_trial.specs.Inputs.{AnswersFiles, IsInputFault, IsTargetsStop, SaysInput}
 use Rattle.buckfleet_trial.proofs.ReadLemmas.{no_crew}
 use Rattle.buckfleet_trial.specs.Serving.{RunsFiles}
-use Rattle.buckfleet_trial.specs.inner.Running.{AnswersOver, in_terms}
+use Rattle.buckfleet_trial.specs.Running.{AnswersOver, in_terms}
 
 no_write : (fault : EngineFault) → IsCuttingFault fault → IsNoWrite fault
 no_write fault (inl full) = subst IsNoWrite (sym full) tt

@@ -13,5 +13,3 @@ pub mod ReadLemmas
 pub mod RunLemmas
 pub mod Spreads
 pub mod Tuned
-pub mod Owning
-pub mod Opening

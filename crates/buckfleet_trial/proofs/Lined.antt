@@ -21,7 +21,7 @@ use Rattle.std.specs.Prelude.{sum_by}
 use Rattle.buckfleet_trial_sweep.proofs.Tables.{lines_both}
 use Rattle.buckfleet_trial.specs.declared.trial.Drawn.{Drawn}
 use Rattle.buckfleet_trial.specs.Trial.{IsBestFor, IsDrawn, IsTrialLine, IsTrialOver, drawn_head}
-use Rattle.buckfleet_trial.specs.inner.Lines.{AreDrawnFor, AreLinesFor, IsPut, all_draws, columns_of, draws_of}
+use Rattle.buckfleet_trial.specs.Lines.{AreDrawnFor, AreLinesFor, IsPut, all_draws, columns_of, draws_of}
 use Rattle.buckfleet_trial.proofs.Each.{zip_drop, zip_length, zip_of_made, zip_split}
 
 regroup : (a b c d e f z : List ℕ)

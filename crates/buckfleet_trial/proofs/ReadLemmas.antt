@@ -23,7 +23,7 @@ use Rattle.buckfleet_terms_files.specs.Reading.{AnswersMore, IsTargetsFileFault}
 use Rattle.buckfleet_engine_files.specs.Opening.{AnswersInputs}
 use Rattle.buckfleet_trial.specs.declared.reading.Opened.{Opened}
 use Rattle.buckfleet_trial.specs.Inputs.{AnswersFiles, IsInputFault, SaysInput, held_with}
-use Rattle.buckfleet_trial.specs.inner.Running.{in_terms}
+use Rattle.buckfleet_trial.specs.Running.{in_terms}
 
 -- there are 1 to 64 stem files, or not
 pub no_crew : {X : Type 0} (n : ℕ) → (0 < n) × (n ≤ 64) → AreNoSeats n → X

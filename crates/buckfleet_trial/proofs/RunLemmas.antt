@@ -20,7 +20,8 @@ use Rattle.buckfleet_trial.specs.Light.{AreDegrees, AreDrawn}
 use Rattle.buckfleet_trial.specs.Trial.{IsDrawn}
 use Rattle.std.specs.List.{AllZip}
 use Rattle.buckfleet_trial.specs.declared.trial.Planned.{Planned}
-use Rattle.buckfleet_trial.specs.inner.Lines.{AreDrawnFor, AreRun, all_draws, runs_of}
+use Rattle.buckfleet_trial.specs.Lines.{AreDrawnFor, all_draws}
+use Rattle.buckfleet_trial.specs.inner.Lines.{AreRun, runs_of}
 use Rattle.buckfleet_trial.proofs.Each.{zip_made}
 
 pub drawn_is : (i own : InstructionParts) (lists order : List (Vec (Arc Stem Global) Global)) (c : Combination)

@@ -30,7 +30,8 @@ use Rattle.buckfleet_trial.specs.declared.wish.Wish.{Wish}
 use Rattle.buckfleet_trial.specs.Light.{AreDegrees, AreDrawn}
 use Rattle.buckfleet_trial.specs.Wishes.{AreOrdered, AreRunsOf, AreWishes, IsMoved, IsRunOf, IsTold, IsWish, IsWishAt, place_of, worth_in}
 use Rattle.buckfleet_trial.specs.WishLine.{IsWishLine, whole_line, wishes_head}
-use Rattle.buckfleet_trial.specs.inner.Asking.{AreBelow, AreRunsBy, AreTold, HasCutOf, IsAsking, IsToldOf, Rises}
+use Rattle.buckfleet_trial.specs.Wishes.{HasCutOf}
+use Rattle.buckfleet_trial.specs.inner.Asking.{AreBelow, AreRunsBy, AreTold, IsAsking, IsToldOf, Rises}
 use Rattle.buckfleet_trial.proofs.Ranked.{above, ranked, rises_of}
 use Rattle.buckfleet_trial.proofs.Pieces.{piece_length}
 use Rattle.buckfleet_trial.proofs.Targets.{some_at}

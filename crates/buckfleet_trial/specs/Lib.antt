@@ -1,9 +1,11 @@
 pub mod Light
+pub mod Lines
+pub mod Parts
+pub mod Running
 pub mod Inputs
 pub mod Trial
 pub mod WishLine
 pub mod Wishes
 pub mod Tune
-pub mod Owned
 pub mod Serving
 pub mod inner

@@ -86,6 +86,14 @@ abbrev pub AreOrdered : Option ℕ → List (Vec (Arc Stem Global) Global) → L
 AreOrdered None lists order = order ≡ lists
 AreOrdered (Some start) lists order = AreDrawn start lists order
 
+-- what a run of an instruction by a rule in an order cuts
+pub record HasCutOf (rule : NamedRule) (i : InstructionParts) (lists : List (Vec (Arc Stem Global) Global))
+    (order : Option ℕ) (history : HistoryParts) : Type 0 where
+  pub ordered : List (Vec (Arc Stem Global) Global)
+  pub are_ordered : AreOrdered order lists ordered
+  pub instruction : history.instruction ≡ i
+  pub has_cut : HasCut rule ordered history
+
 -- what a run of an instruction by a rule in an order came to: what was cut is worth at base prices, the degree of each
 -- assortment by these targets, and the least of these
 pub record IsRunOf (rule : NamedRule) (i : InstructionParts) (lists : List (Vec (Arc Stem Global) Global))

@@ -4,7 +4,8 @@ ghost use Rattle.buck_apt.specs.Instruction.{AssortmentParts, classes};
 ghost use Rattle.buck_book_postings.specs.Degree.{part_of};
 ghost use Rattle.buck_book_postings.specs.Posting.{opening_targets};
 ghost use Rattle.buckfleet_trial_sweep.specs.Runs.{IsStop};
-ghost use Rattle.buckfleet_trial.specs.inner.Asking.{AreDrawnBy, AreRunsBy, HasCutOf, IsAsking, IsRunBy};
+ghost use Rattle.buckfleet_trial.specs.Wishes.{HasCutOf};
+ghost use Rattle.buckfleet_trial.specs.inner.Asking.{AreDrawnBy, AreRunsBy, IsAsking, IsRunBy};
 
 use crate::light::{base_worth, cut_by_name, degrees_of, least_of};
 use crate::moved::Asked;

@@ -10,6 +10,7 @@ ghost use Rattle.buck_fleet_round_robin.specs.Turn.{stems_in_all};
 ghost use Rattle.buckfleet_trial_sweep.specs.Runs.{HasCut, IsStop};
 ghost use Rattle.buckfleet_trial_sweep.specs.Table.{IsLeast};
 ghost use Rattle.buckfleet_trial.specs.Light.{AreBest, AreBestOf, AreDegrees, lesser};
+ghost use Rattle.buckfleet_trial.specs.Wishes.{HasCutOf};
 ghost use Rattle.buckfleet_trial.specs.inner.Worth.{IsCutUnder, worth_under};
 
 use buck_apt::Instruction;
@@ -21,6 +22,7 @@ use buck_rule::{NamedRule, Rule, Standing};
 use buck_stem::Stem;
 use buck_value::Sheet;
 use buckfleet_engine_files::EngineFault;
+use buckfleet_trial_draws::order_from;
 use std::alloc::Global;
 use std::sync::Arc;
 
@@ -59,6 +61,28 @@ pub(crate) fn cut_by_name(
 {
     let rule = Rule::new(move |s: &Standing| named.price(s));
     cut_by_rule(alloc, instruction, named, rule, lists)
+}
+
+/// What is cut by a rule, each list in its turn: in the files' own order, or in that of the draw that begins at a
+/// state. `Full` if there are more stems than 1,000,000, and `Memory` if an allocation failed.
+pub fn cut_in_order(
+    alloc: Global,
+    instruction: &Arc<Instruction>,
+    named: NamedRule,
+    lists: &[Vec<Arc<Stem>>],
+    order: Option<u64>,
+) -> Result<Parts, EngineFault>
+    requires few { length lists.now ≤ 64 }
+    ensures ok { IfOk result (HasCutOf named instruction.now.value lists.now order) }
+    ensures stop { IfErr result (IsStop lists.now) }
+{
+    match order {
+        None => cut_by_name(alloc, instruction, named, lists),
+        Some(start) => {
+            let order = order_from(alloc, start, lists)?;
+            cut_by_name(alloc, instruction, named, order.as_slice())
+        }
+    }
 }
 
 /// What a posting is worth under the sheet of the base prices.

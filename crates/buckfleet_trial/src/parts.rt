@@ -2,13 +2,13 @@
 ghost use Rattle.std.specs.Prelude.{◌≡◌, ◌⊎◌, ◌<◌, IfErr, IfOk, Err};
 ghost use Rattle.std.specs.List.{Contains};
 ghost use Rattle.buckfleet_engine_files.specs.declared.fault.EngineFault.TheVariants.{Memory};
-ghost use Rattle.buckfleet_trial.specs.inner.Parts.{AreJoined};
+ghost use Rattle.buckfleet_trial.specs.Parts.{AreJoined};
 
 use buckfleet_engine_files::EngineFault;
 use std::alloc::Global;
 
 /// How many neighbours of so many a thread works at, of which there are at most so many.
-pub(crate) fn size_of(number: usize, threads: usize) -> usize
+pub fn size_of(number: usize, threads: usize) -> usize
     requires { 0 < threads }
     ensures { 0 < result }
 {
@@ -16,7 +16,7 @@ pub(crate) fn size_of(number: usize, threads: usize) -> usize
 }
 
 /// What came of the parts of some work, one after the other, or the first fault.
-pub(crate) fn joined<X: Drop>(
+pub fn joined<X: Drop>(
     alloc: Global,
     parts: Vec<Result<Vec<X>, EngineFault>>,
 ) -> Result<Vec<X>, EngineFault>

@@ -8,7 +8,7 @@ ghost use Rattle.buck_book_postings.specs.declared.posting.TheConstants.{MOST_PO
 ghost use Rattle.buckfleet_engine_input.specs.Harvest.{AreNoSeats, HaveTooMany, IsFleetFault};
 ghost use Rattle.buckfleet_terms_files.specs.Reading.{IsTargetsFileFault};
 ghost use Rattle.buckfleet_trial.specs.Inputs.{AnswersFiles, HasWanted, IsInputFault, SaysInput, held_with};
-ghost use Rattle.buckfleet_trial.specs.inner.Running.{in_terms};
+ghost use Rattle.buckfleet_trial.specs.Running.{in_terms};
 
 use buck_book_postings::MOST_POSTINGS;
 use buck_stem::Stem;
@@ -32,7 +32,7 @@ pub struct Opened<F> {
 
 /// Opens the instruction file, then the stem files in their order, and then the file of targets, if it is named. The
 /// first that can't be opened is `Read` with its number.
-pub(crate) fn open_files<O: Open>(
+pub fn open_files<O: Open>(
     alloc: Global,
     opener: &mut O,
     apt: &str,
@@ -117,7 +117,7 @@ fn read_moved<R: io::Read>(
 /// there is one, and the stems. The instruction file is read first, then the stem files, and then the file of targets;
 /// each is refused, if it must be, before the next is read. `Full` if there are more stems than 1,000,000, before the
 /// file of targets is read. The onlooker of the workers is shown the instruction.
-pub(crate) fn read_files<T: Workers, R: io::Read + Drop>(
+pub fn read_files<T: Workers, R: io::Read + Drop>(
     workers: &T,
     alloc: Global,
     files: Opened<R>,
@@ -143,7 +143,7 @@ pub(crate) fn read_files<T: Workers, R: io::Read + Drop>(
 }
 
 /// What came of a run, with its fault as one of a run over such files.
-pub(crate) fn of_run<X>(made: Result<X, EngineFault>) -> Result<X, TermsFault>
+pub fn of_run<X>(made: Result<X, EngineFault>) -> Result<X, TermsFault>
     ensures { result ≡ in_terms made }
 {
     match made {

@@ -3,7 +3,7 @@ ghost use Rattle.std.specs.Prelude.{◌≡◌, ◌<◌, ◌≤◌, ◌^◌, ◌+
 ghost use Rattle.std.specs.List.{AllZip};
 ghost use Rattle.buckfleet_trial_sweep.specs.Table.{head_line, rate_of};
 ghost use Rattle.buckfleet_trial.specs.Trial.{AreSpreads, IsFromNothing, costs_in, degrees_in};
-ghost use Rattle.buckfleet_trial.specs.inner.Lines.{IsPut, columns_of};
+ghost use Rattle.buckfleet_trial.specs.Lines.{IsPut, columns_of};
 
 use crate::trial::Drawn;
 use buck_apt::Instruction;
@@ -18,7 +18,7 @@ const DRAWN: &[u8] =
     b",least_degree_min,least_degree_mean,least_degree_max,cost_min,cost_mean,cost_max";
 
 /// A line without its line feed.
-pub(crate) fn open_line(line: &[u8]) -> &[u8]
+pub fn open_line(line: &[u8]) -> &[u8]
     ensures { (own : List ℕ) → line.now ≡ own ++ codes "\n" → result.now ≡ own }
 {
     match line.split_last() {
@@ -28,7 +28,7 @@ pub(crate) fn open_line(line: &[u8]) -> &[u8]
 }
 
 /// Puts the first line, which names the columns.
-pub(crate) fn put_first(
+pub fn put_first(
     alloc: Global,
     out: &mut Vec<u8>,
     instruction: &Instruction,
@@ -49,7 +49,7 @@ pub(crate) fn put_first(
 
 /// What steering cost of what the best cuttings are worth, in ten-thousandths, to the nearest; 0 if they are worth
 /// nothing.
-pub(crate) fn cost_of(best: u128, at_base: u128) -> u128
+pub fn cost_of(best: u128, at_base: u128) -> u128
     requires { best < 2 ^ 100 }
     ensures cost { result ≡ rate_of best at_base }
     ensures low { result ≤ 10000 }
@@ -110,7 +110,7 @@ fn put_drawn(alloc: Global, out: &mut Vec<u8>, drawn: &[Drawn], best: u128) -> R
 }
 
 /// Puts the line of a combination, and behind it what its draws came to, if there are some.
-pub(crate) fn put_line(
+pub fn put_line(
     alloc: Global,
     out: &mut Vec<u8>,
     line: &[u8],

@@ -21,15 +21,6 @@ pub struct TrialTask<'a> {
     pub threads: Option<u8>,
 }
 
-/// The arguments of such a sweep whose lines also say what an owner pays.
-#[derive(Drop)]
-pub struct OwnedTask<'a> {
-    /// The arguments of the sweep itself.
-    pub trial: TrialTask<'a>,
-    /// The name of the file of the owner's instruction.
-    pub own: &'a str,
-}
-
 /// The arguments of a run of wishes.
 #[derive(Drop)]
 pub struct WishesTask<'a> {

@@ -6,8 +6,9 @@ ghost use Rattle.buckfleet_trial_sweep.specs.Runs.{IsStop};
 ghost use Rattle.buckfleet_trial.specs.Inputs.{held_with};
 ghost use Rattle.buckfleet_trial.specs.Trial.{IsBestFor, IsDrawn, IsTrialOver, IsTrialRun, starts_of};
 ghost use Rattle.buckfleet_engine_files.specs.Written.{WritesText};
-ghost use Rattle.buckfleet_trial.specs.inner.Running.{AnswersOver};
-ghost use Rattle.buckfleet_trial.specs.inner.Lines.{AreDrawnFor, AreLinesFor, AreRun, IsDrawnPart, IsLinesPart, all_draws, draws_of, runs_of};
+ghost use Rattle.buckfleet_trial.specs.Running.{AnswersOver};
+ghost use Rattle.buckfleet_trial.specs.Lines.{AreDrawnFor, AreLinesFor, all_draws, draws_of};
+ghost use Rattle.buckfleet_trial.specs.inner.Lines.{AreRun, IsDrawnPart, IsLinesPart, runs_of};
 
 use crate::light::{base_worth, best_worth, cut_by_name, degrees_of, least_of};
 use crate::onlooker::RunOnlooker;
@@ -30,14 +31,16 @@ use std::{io, thread};
 
 /// What the run of a draw came to: the least of the degrees that are there, and what was cut is worth at base prices.
 #[derive(Clone, Copy)]
-pub(crate) struct Drawn {
+pub struct Drawn {
+    /// In ten-thousandths; None if no degree is there.
     pub least: Option<u32>,
+    /// In millionths of the price unit.
     pub at_base: u128,
 }
 
 /// A run to be made: of a combination, in the order of the draw that begins at a state.
 #[derive(Clone, Copy)]
-pub(crate) struct Planned<'a> {
+struct Planned<'a> {
     combination: &'a Combination,
     start: u64,
 }
@@ -107,7 +110,7 @@ fn drawn_of<L: RunOnlooker>(
 }
 
 /// The lines of combinations, with the runs in at most so many threads at once.
-pub(crate) fn lines_in_parts<T: Threads + Sync, L: RunOnlooker + Sync>(
+fn lines_in_parts<T: Threads + Sync, L: RunOnlooker + Sync>(
     rt: &T,
     alloc: Global,
     threads: usize,
@@ -149,7 +152,7 @@ fn plan_draws<'a>(
 }
 
 /// The runs of all draws: for the first combination all draws, and then for the next.
-pub(crate) fn plan_all<'a>(
+fn plan_all<'a>(
     alloc: Global,
     combinations: &'a [Combination],
     starts: &[u64],
@@ -164,7 +167,7 @@ pub(crate) fn plan_all<'a>(
 }
 
 /// What the runs of all draws came to, done in at most so many threads at once.
-pub(crate) fn drawn_in_parts<T: Threads + Sync, L: RunOnlooker + Sync>(
+fn drawn_in_parts<T: Threads + Sync, L: RunOnlooker + Sync>(
     rt: &T,
     alloc: Global,
     threads: usize,
@@ -188,11 +191,7 @@ pub(crate) fn drawn_in_parts<T: Threads + Sync, L: RunOnlooker + Sync>(
 }
 
 /// The states at which the draws begin, if there are draws.
-pub(crate) fn all_starts(
-    alloc: Global,
-    draws: &Option<Draws>,
-    input: &Input,
-) -> Result<Vec<u64>, Memory>
+pub fn all_starts(alloc: Global, draws: &Option<Draws>, input: &Input) -> Result<Vec<u64>, Memory>
     ensures starts { IfOk result (λ starts. starts.items ≡ starts_of draws.now input.now.lists.items) }
     ensures few { IfOk result (λ starts. length starts.items ≤ 65535) }
 {
@@ -206,7 +205,7 @@ pub(crate) fn all_starts(
 }
 
 /// What the best cuttings at base prices are worth, if there are draws that need it.
-pub(crate) fn best_of(alloc: Global, input: &Input, starts: &[u64]) -> Result<u128, Memory>
+fn best_of(alloc: Global, input: &Input, starts: &[u64]) -> Result<u128, Memory>
     requires room { stems_in_all input.now.lists.items ≤ MOST_POSTINGS }
     ensures best { IfOk result (IsBestFor input.now.instruction input.now.lists.items starts.now) }
     ensures low { IfOk result (λ best. best < 2 ^ 100) }
@@ -218,10 +217,50 @@ pub(crate) fn best_of(alloc: Global, input: &Input, starts: &[u64]) -> Result<u1
     best_worth(alloc, &instruction, input.lists.as_slice())
 }
 
-/// What the runs of some combinations came to: a line of each, and what all of its draws came to, one combination after
-/// the other; and what the best cuttings are worth, if there are draws.
+/// What the runs of combinations came to.
+#[derive(Drop)]
+pub struct RunsMade {
+    /// The line of each, as that of a sweep.
+    pub lines: Vec<Vec<u8>>,
+    /// What all draws of each came to, one combination after the other.
+    pub drawn: Vec<Drawn>,
+    /// What the best cuttings at base prices are worth, in millionths of the price unit; any number without draws.
+    pub best: u128,
+}
+
+/// Makes the runs of combinations, in the files' own order and in those of the draws that begin at these states, in at
+/// most so many threads at once. `Memory` if an allocation failed.
+pub fn made_in_parts<T: Threads + Sync, L: RunOnlooker + Sync>(
+    rt: &T,
+    alloc: Global,
+    threads: usize,
+    onlooker: &L,
+    input: &Input,
+    combinations: &[Combination],
+    starts: &[u64],
+) -> Result<RunsMade, EngineFault>
+    requires threads { 0 < threads }
+    requires few { length input.now.lists.items ≤ 64 }
+    requires room { stems_in_all input.now.lists.items ≤ MOST_POSTINGS }
+    ensures lines { IfOk result (λ made.
+        AreLinesFor input.now.instruction input.now.lists.items combinations.now made.lines.items) }
+    ensures drawn { IfOk result (λ made.
+        AreDrawnFor input.now.instruction input.now.lists.items combinations.now starts.now made.drawn.items) }
+    ensures best { IfOk result (λ made.
+        IsBestFor input.now.instruction input.now.lists.items starts.now made.best) }
+    ensures low { IfOk result (λ made. made.best < 2 ^ 100) }
+    ensures stop { IfErr result (IsStop input.now.lists.items) }
+{
+    let lines = lines_in_parts(rt, alloc, threads, onlooker, input, combinations)?;
+    let planned = plan_all(alloc, combinations, starts)?;
+    let drawn = drawn_in_parts(rt, alloc, threads, onlooker, input, planned.as_slice())?;
+    let best = best_of(alloc, input, starts)?;
+    Ok(RunsMade { lines, drawn, best })
+}
+
+/// What a [`RunsMade`] has, lent.
 #[derive(Clone, Copy)]
-pub(crate) struct Made<'a> {
+struct Made<'a> {
     pub lines: &'a [Vec<u8>],
     pub drawn: &'a [Drawn],
     pub best: u128,
@@ -274,14 +313,11 @@ fn table_of<T: Threads + Sync, L: RunOnlooker + Sync>(
     ensures stop { IfErr result (IsStop input.now.lists.items) }
 {
     onlooker.making(combinations.len().saturating_mul(starts.len() + 1));
-    let lines = lines_in_parts(rt, alloc, threads, onlooker, input, combinations)?;
-    let planned = plan_all(alloc, combinations, starts)?;
-    let drawn = drawn_in_parts(rt, alloc, threads, onlooker, input, planned.as_slice())?;
-    let best = best_of(alloc, input, starts)?;
+    let runs = made_in_parts(rt, alloc, threads, onlooker, input, combinations, starts)?;
     let made = Made {
-        lines: lines.as_slice(),
-        drawn: drawn.as_slice(),
-        best,
+        lines: runs.lines.as_slice(),
+        drawn: runs.drawn.as_slice(),
+        best: runs.best,
     };
     Ok(text_of(alloc, input, combinations, starts, made)?)
 }

@@ -9,7 +9,7 @@ ghost use Rattle.buckfleet_terms_files.specs.Telling.{WritesTerms};
 ghost use Rattle.buckfleet_trial.specs.Inputs.{held_with};
 ghost use Rattle.buckfleet_trial.specs.Serving.{RunsTune};
 ghost use Rattle.buckfleet_trial.specs.Tune.{AnswersTune, AreTuned, IsTunedText, price_sum, tuned_price};
-ghost use Rattle.buckfleet_trial.specs.inner.Running.{AnswersOver};
+ghost use Rattle.buckfleet_trial.specs.Running.{AnswersOver};
 
 use crate::light::cut_by_name;
 use crate::reading::{Opened, of_run, open_files, read_files};

@@ -11,7 +11,7 @@ ghost use Rattle.buckfleet_trial.specs.Trial.{starts_of};
 ghost use Rattle.buckfleet_trial.specs.Wishes.{AnswersWishes, AreUnsteered, AreWishes, IsWishAt};
 ghost use Rattle.buckfleet_trial.specs.WishLine.{empty_end, gains_head, whole_line, wishes_head};
 ghost use Rattle.buckfleet_engine_files.specs.Written.{WritesText};
-ghost use Rattle.buckfleet_trial.specs.inner.Running.{AnswersOver};
+ghost use Rattle.buckfleet_trial.specs.Running.{AnswersOver};
 ghost use Rattle.buckfleet_trial.specs.inner.Asking.{AreAsked, AreBelow, AreDrawnBy, AreRunsBy, AreTold, IsAsking, IsDrawnPartBy, IsToldPart};
 
 use crate::asking::Asking;

@@ -11,7 +11,8 @@ use buckfleet_terms_files::{
     TargetsFault, TermsFault, conclude_terms, open_last, open_more, read_own, read_wanted, status,
     write_terms_fault,
 };
-use buckfleet_trial::{Opened, OwnedFiles, TrialTask, run_owned};
+use buckfleet_trial::{Opened, TrialTask};
+use buckfleet_trial_owned::{OwnedFiles, run_owned};
 use std::alloc::Global;
 use std::thread::Threads;
 

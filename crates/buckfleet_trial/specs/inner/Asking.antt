@@ -7,17 +7,15 @@ use Rattle.std.specs.declared.alloc.Global.{Global}
 use Rattle.buck_apt.specs.Instruction.{InstructionParts}
 use Rattle.buck_apt.specs.Wanted.{MayBeWanted}
 use Rattle.buck_stem.specs.declared.stem.Stem.{Stem}
-use Rattle.buck_rule.specs.declared.named.NamedRule.{NamedRule}
-use Rattle.buck_book_postings.specs.History.{HistoryParts}
 use Rattle.buck_book_postings.specs.Posting.{opening_targets}
 use Rattle.buckfleet_engine_files.specs.declared.fault.EngineFault.{EngineFault}
-use Rattle.buckfleet_trial_sweep.specs.Runs.{HasCut, IsStop}
+use Rattle.buckfleet_trial_sweep.specs.Runs.{IsStop}
 use Rattle.buckfleet_trial.specs.declared.asking.Asking.{Asking}
 use Rattle.buckfleet_trial.specs.declared.outcome.Outcome.{Outcome}
 use Rattle.buckfleet_trial.specs.declared.outcome.Runs.{Runs}
 use Rattle.buckfleet_trial.specs.declared.wish.Told.{Told}
 use Rattle.buckfleet_trial.specs.declared.wish.Wish.{Wish}
-use Rattle.buckfleet_trial.specs.Wishes.{AreOrdered, AreRunsOf, AreUnsteered, IsRunOf, IsTold, IsWishAt, place_of}
+use Rattle.buckfleet_trial.specs.Wishes.{AreRunsOf, AreUnsteered, IsRunOf, IsTold, IsWishAt, place_of}
 
 -- the targets and the logs are those of the instruction
 pub record IsAsking (a : Asking) : Type 0 where
@@ -26,14 +24,6 @@ pub record IsAsking (a : Asking) : Type 0 where
   pub wanted : MayBeWanted a.instruction.value (opening_targets a.instruction.value)
   pub unsteered : AreUnsteered a.instruction.value a.input.lists.items a.unsteered.items
   pub number : length a.starts.items ≤ 65535
-
--- what a run of an instruction by a rule in an order cuts
-pub record HasCutOf (rule : NamedRule) (i : InstructionParts) (lists : List (Vec (Arc Stem Global) Global))
-    (order : Option ℕ) (history : HistoryParts) : Type 0 where
-  pub ordered : List (Vec (Arc Stem Global) Global)
-  pub are_ordered : AreOrdered order lists ordered
-  pub instruction : history.instruction ≡ i
-  pub has_cut : HasCut rule ordered history
 
 -- a run of an instruction in an order, and in that of each draw
 abbrev pub IsRunBy : Asking → InstructionParts → Option ℕ → Outcome → Type 0

@@ -1,5 +1,5 @@
 use Rattle.std.proofs.Common.{Ok, [], ◌∷◌, ◌++◌, sym, subst}
-use Rattle.buckfleet_trial.specs.inner.Parts.{AreJoined}
+use Rattle.buckfleet_trial.specs.Parts.{AreJoined}
 use Rattle.buckfleet_trial.proofs.Each.{joined_more}
 use Rattle.buckfleet_trial.proofs.parts.joined.Goals as goal
 

@@ -1,4 +1,4 @@
-use Rattle.buckfleet_trial.specs.inner.Parts.{AreJoined}
+use Rattle.buckfleet_trial.specs.Parts.{AreJoined}
 use Rattle.buckfleet_trial.proofs.parts.joined.Given as goal
 
 abbrev pub invariant-loop-part : goal.invariant-loop-part

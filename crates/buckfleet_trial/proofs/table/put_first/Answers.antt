@@ -1,6 +1,6 @@
 use Rattle.std.proofs.Common.{◌≡◌, ◌++◌, ◌∙◌, List, ℕ, ap, append-nil, append_assoc, sym}
 use Rattle.buckfleet_trial_sweep.specs.Table.{head_line}
-use Rattle.buckfleet_trial.specs.inner.Lines.{columns_of}
+use Rattle.buckfleet_trial.specs.Lines.{columns_of}
 use Rattle.buckfleet_trial.proofs.table.put_first.Goals as goal
 use Rattle.buckfleet_trial.proofs.table.put_first.Goals.{then-has_draws+in_ok-extend_from_slice-2, else-has_draws}
 

@@ -1,5 +1,5 @@
 use Rattle.std.proofs.Common.{take}
-use Rattle.buckfleet_trial.specs.inner.Lines.{AreLinesFor}
+use Rattle.buckfleet_trial.specs.Lines.{AreLinesFor}
 use Rattle.buckfleet_trial.proofs.trial.lines_of.Given as goal
 
 abbrev pub invariant-loop-combination : goal.invariant-loop-combination

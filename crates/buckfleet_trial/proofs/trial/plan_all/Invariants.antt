@@ -1,5 +1,6 @@
 use Rattle.std.proofs.Common.{◌≡◌, take}
-use Rattle.buckfleet_trial.specs.inner.Lines.{all_draws, runs_of}
+use Rattle.buckfleet_trial.specs.Lines.{all_draws}
+use Rattle.buckfleet_trial.specs.inner.Lines.{runs_of}
 use Rattle.buckfleet_trial.proofs.trial.plan_all.Given as goal
 
 abbrev pub invariant-loop-combination : goal.invariant-loop-combination

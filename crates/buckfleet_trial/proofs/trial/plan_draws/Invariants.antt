@@ -1,5 +1,6 @@
 use Rattle.std.proofs.Common.{◌≡◌, ◌++◌, take}
-use Rattle.buckfleet_trial.specs.inner.Lines.{draws_of, runs_of}
+use Rattle.buckfleet_trial.specs.Lines.{draws_of}
+use Rattle.buckfleet_trial.specs.inner.Lines.{runs_of}
 use Rattle.buckfleet_trial.proofs.trial.plan_draws.Given as goal
 
 abbrev pub invariant-loop-start : goal.invariant-loop-start

@@ -1,7 +1,7 @@
 use Rattle.std.proofs.Common.{◌<◌, ◌+◌, ◌++◌, ◌∙◌, length, drop, ap, arith, subst, sym}
 use Rattle.std.specs.Prelude.{codes, not}
 use Rattle.buckfleet_trial_sweep.specs.Runs.{IsRunLine}
-use Rattle.buckfleet_trial.specs.inner.Lines.{AreDrawnFor, IsPut, columns_of}
+use Rattle.buckfleet_trial.specs.Lines.{AreDrawnFor, IsPut, columns_of}
 use Rattle.buckfleet_trial.proofs.Each.{zip_length}
 use Rattle.buckfleet_trial.proofs.Lined.{columns_are, head_ends, line_more, rest_enough, rest_more, whole_text}
 use Rattle.buckfleet_trial.proofs.trial.text_of.Goals as goal

@@ -1,5 +1,5 @@
 use Rattle.std.proofs.Common.{drop}
-use Rattle.buckfleet_trial.specs.inner.Lines.{AreDrawnFor}
+use Rattle.buckfleet_trial.specs.Lines.{AreDrawnFor}
 use Rattle.buckfleet_trial.proofs.Lined.{ArePut}
 use Rattle.buckfleet_trial.proofs.trial.text_of.Given as goal
 

@@ -9,7 +9,7 @@ use Rattle.buckfleet_terms_files.specs.declared.fault.TermsFault.TheVariants.{Ow
 use Rattle.buckfleet_terms_files.specs.Targets.{HasTargets}
 use Rattle.buckfleet_terms_files.specs.Telling.{WritesTerms}
 use Rattle.buckfleet_trial.specs.Inputs.{IsInputFault}
-use Rattle.buckfleet_trial.specs.Owned.{AnswersOwned, IsOwnStop}
+use Rattle.buckfleet_trial_owned.specs.Owned.{AnswersOwned, IsOwnStop}
 use Rattle.wrong_trial.proofs.files.contract_told_before_the_targets.Goals as goal
 
 -- a contract isn't, if the file of targets is refused
