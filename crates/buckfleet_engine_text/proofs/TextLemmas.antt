@@ -1,18 +1,15 @@
 -- A text that grows by a stem at a time.
-use Rattle.std.proofs.Common.{◌≡◌, ℕ, map, zero, suc, ◌+◌, ◌*◌, ◌≤◌, ◌<◌, List, [], ◌∷◌, ◌++◌, length, All, refl, sym, ap, ◌∙◌, arith, append_assoc, length-append, take, drop, get_or, slice_index_or, add-one, subst, Result, Ok, IfOk}
-use Rattle.std.proofs.Math.Seq.{get_or-append_seam, take-add, take-suc}
-use Rattle.std.specs.Fork.{IsChunk}
+use Rattle.std.proofs.Common.{◌≡◌, ℕ, map, zero, suc, ◌+◌, ◌≤◌, ◌<◌, List, [], ◌∷◌, ◌++◌, length, All, refl, sym, ap, ◌∙◌, arith, append_assoc, length-append, take, drop, get_or, add-one, subst}
+use Rattle.std.proofs.Math.Seq.{take-suc}
 use Rattle.std.specs.List.{flat_map}
-use Rattle.buck_record.specs.declared.memory.Memory.{Memory}
 use Rattle.buck_stem.specs.Stem.{StemParts}
 use Rattle.buck_value.specs.declared.log.Log.{Log}
 use Rattle.buck_value.specs.Sheet.{SheetParts}
 use Rattle.buck_dp.specs.Cutting.{IsCutFrom}
-use Rattle.buckfleet_engine_text.specs.inner.Text.{AreLines, AreLinesOf, IsPut}
-use Rattle.buckfleet_engine_text.specs.declared.bucking.Lines.{Lines}
+use Rattle.buckfleet_engine_text.specs.inner.Text.{AreLines, IsPut}
 use Rattle.buckfleet_engine_text.specs.Bucking.{CutStem, stem_line, stem_lines, log_line}
 use Rattle.buck_dp.specs.Best.{IsFirstBest, cutting_worth}
-use Rattle.std.proofs.lemmas.List.{append-nil, length-take, map-append}
+use Rattle.std.proofs.lemmas.List.{append-nil, map-append, take-append-drop}
 use Rattle.std.proofs.lemmas.List.Concat.{flat_map-append}
 use Rattle.std.proofs.lemmas.List.Elements.{All-append}
 use Rattle.std.proofs.lemmas.List.Sums.{sum_by-append}
@@ -129,48 +126,16 @@ one_put sheet stems stem out new logs worth count value far put low high =
     both_put sheet stems (stem ∷ []) out new _ logs worth count value far
     (one_alone sheet stem out new count value put low high) put.lines
 
--- the lines of the next run of so many stems
-pub part_put : (sheet : SheetParts) (stems part : List StemParts) (size k : ℕ) (out new lines : List ℕ)
+-- the lines of stems that were cut in two runs
+pub runs_put : (sheet : SheetParts) (stems : List StemParts) (at : ℕ) (out new lines : List ℕ)
     (logs worth count value : ℕ)
-    → AreLines sheet (take (k * size) stems) out logs worth
-    → part ≡ take size (drop (k * size) stems)
-    → AreLines sheet part lines count value
+    → AreLines sheet (take at stems) out logs worth
+    → AreLines sheet (drop at stems) lines count value
     → new ≡ out ++ lines
-    → AreLines sheet (take ((k + 1) * size) stems) new (logs + count) (worth + value)
-part_put sheet stems part size k out new lines logs worth count value far is next more =
-    let on : take ((k + 1) * size) stems ≡ take (k * size) stems ++ part =
-    ap (λ n. take n stems) (omega arith) ∙ take-add (k * size) size stems
-    ∙ ap (λ l. take (k * size) stems ++ l) (sym is) in
-    subst (λ l. AreLines sheet l new (logs + count) (worth + value)) (sym on)
-    (both_put sheet _ part out new lines logs worth count value far next more)
-
--- what a thread gives for its run of stems
-pub part_made : (sheet : SheetParts) (stems part : List StemParts) (size start : ℕ) (found : Result Lines Memory)
-    (lines : Lines)
-    → IsChunk stems size start part
-    → IfOk found (AreLinesOf sheet part)
-    → found ≡ Ok lines
-    → AreLinesOf sheet (take size (drop start stems)) lines
-part_made sheet stems part size start found lines is made same =
-    subst (λ l. AreLinesOf sheet l lines) is.value (subst (λ r. IfOk r (AreLinesOf sheet part)) same made)
-
--- where an element stands
-pub stands_at : {X : Type 0} (ys : List X) (x : X) (zs all : List X) → all ≡ ys ++ x ∷ zs
-    → (length ys < length all) × (slice_index_or all (length ys) x ≡ x)
-stands_at ys x zs all is = (
-  omega (arith, ap length is, length-append ys (x ∷ zs)),
-  ap (λ l. slice_index_or l (length ys) x) is ∙ get_or-append_seam ys x zs x,
-)
-
--- numbers of two runs of neighbours are low together
-pub parts_low : (stems : List StemParts) (start size logs count : ℕ)
-    → logs ≤ length (take start stems) * 18446744073709551616
-    → count ≤ length (take size (drop start stems)) * 18446744073709551616
-    → logs + count ≤ length stems * 18446744073709551616
-parts_low stems start size logs count low next =
-    let both : length (take (start + size) stems) ≡ length (take start stems) + length (take size (drop start stems)) =
-    ap length (take-add start size stems) ∙ length-append _ _ in
-    omega (arith, low, next, both, length-take (start + size) stems)
+    → AreLines sheet stems new (logs + count) (worth + value)
+runs_put sheet stems at out new lines logs worth count value far next more =
+    subst (λ l. AreLines sheet l new (logs + count) (worth + value)) (take-append-drop at stems)
+    (both_put sheet (take at stems) (drop at stems) out new lines logs worth count value far next more)
 
 pub one_taken : (xs : List StemParts) (i : ℕ) (x : StemParts) → i < length xs → x ≡ get_or xs i x
     → take (i + 1) xs ≡ take i xs ++ x ∷ []

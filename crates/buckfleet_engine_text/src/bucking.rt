@@ -1,9 +1,10 @@
 //! The text of a bucking.
 ghost use Rattle.std.specs.Prelude.{◌≡◌, ◌++◌, ◌+◌, ◌<◌, ◌^◌, ◌∷◌, [], IfOk, OnOk, All, codes};
 ghost use Rattle.std.specs.List.{flat_map};
+ghost use Rattle.std.specs.Thread.{IsSync};
 ghost use Rattle.buck_record.specs.writing.Written.{spelled};
 ghost use Rattle.buck_value.specs.Allowed.{IsAllowed};
-ghost use Rattle.buckfleet_engine_text.specs.inner.Text.{AreLines, AreLinesOf, IsPut};
+ghost use Rattle.buckfleet_engine_text.specs.inner.Text.{AreLinesOf, AreRunsOf, IsPut};
 ghost use Rattle.buckfleet_engine_text.specs.Text.{joined};
 ghost use Rattle.buckfleet_engine_text.specs.Bucking.{IsBuckText, IsTextUnder, base_sheet, log_line, named_line_of, stem_line, total_line};
 
@@ -203,13 +204,6 @@ fn text_under(alloc: Global, sheet: Arc<Sheet>, stems: &[Stem]) -> Result<Vec<u8
     text_of(lines, stems.len())
 }
 
-/// Cuts stems one after the other under a sheet that others share, and puts their lines.
-fn shared_lines(alloc: Global, sheet: &Arc<Sheet>, stems: &[Stem]) -> Result<Lines, Memory>
-    ensures { IfOk result (λ lines. AreLinesOf sheet.now.value stems.now lines) }
-{
-    lines_under(alloc, sheet.clone()?, stems)
-}
-
 /// What was cut of runs of neighbours: the lines of each run, and how many logs there are and their worth together.
 #[derive(Drop)]
 struct Runs {
@@ -218,42 +212,58 @@ struct Runs {
     worth: u128,
 }
 
-/// Puts what was cut of the next run behind that of the runs before it.
-fn put_run(runs: &mut Runs, run: Lines) -> Result<(), Memory>
-    requires { (runs.old.logs + run.logs < 2 ^ 128) × (runs.old.worth + run.worth < 2 ^ 128) }
-    ensures texts { OnOk result (joined runs.new.texts.items ≡ joined runs.old.texts.items ++ run.text.items) }
-    ensures logs { OnOk result (runs.new.logs ≡ runs.old.logs + run.logs) }
-    ensures worth { OnOk result (runs.new.worth ≡ runs.old.worth + run.worth) }
+/// Cuts stems one after the other under a sheet that others share, and gives them up: a thread frees its own stems.
+fn run_of(alloc: Global, sheet: &Arc<Sheet>, stems: Vec<Stem>) -> Result<Runs, Memory>
+    ensures { IfOk result (AreRunsOf sheet.now.value stems.items) }
 {
-    runs.texts.push(run.text)?;
-    runs.logs += run.logs;
-    runs.worth += run.worth;
+    let Lines { text, logs, worth } = lines_under(alloc, sheet.clone()?, stems.as_slice())?;
+    let mut texts = Vec::new(alloc);
+    texts.push(text)?;
+    Ok(Runs { texts, logs, worth })
+}
+
+/// Puts what was cut of the next runs behind that of the runs before them.
+fn put_runs(runs: &mut Runs, mut more: Runs) -> Result<(), Memory>
+    requires { (runs.old.logs + more.logs < 2 ^ 128) × (runs.old.worth + more.worth < 2 ^ 128) }
+    ensures texts { OnOk result (joined runs.new.texts.items ≡ joined runs.old.texts.items ++ joined more.texts.items) }
+    ensures logs { OnOk result (runs.new.logs ≡ runs.old.logs + more.logs) }
+    ensures worth { OnOk result (runs.new.worth ≡ runs.old.worth + more.worth) }
+{
+    runs.texts.append(&mut more.texts)?;
+    runs.logs += more.logs;
+    runs.worth += more.worth;
     Ok(())
 }
 
-/// Cuts stems under a sheet, each run of so many neighbours in a thread of its own.
+/// Cuts stems under a sheet, in at most so many threads at once, a run of neighbours in each.
 fn runs_of<T: Threads + Sync>(
     rt: &T,
     alloc: Global,
     sheet: &Arc<Sheet>,
-    stems: &[Stem],
-    size: usize,
+    mut stems: Vec<Stem>,
+    threads: usize,
 ) -> Result<Runs, Memory>
-    requires size { 0 < size }
-    ensures { IfOk result (λ runs. AreLines sheet.now.value stems.now (joined runs.texts.items) runs.logs runs.worth) }
+    ensures { IfOk result (AreRunsOf sheet.now.value stems.items) }
 {
-    let cut = |_: usize, part: &[Stem]| -> Result<Lines, Memory>
-        ensures { IfOk result (λ lines. AreLinesOf sheet.entry.now.value part.now lines) }
-    { shared_lines(alloc, sheet, part) };
-    let parts = thread::map_chunks(rt, alloc, stems, size, &cut)?;
-    let mut runs = Runs {
-        texts: Vec::new(alloc),
-        logs: 0,
-        worth: 0,
-    };
-    for part in parts {
-        put_run(&mut runs, part?)?;
+    if threads < 2 {
+        return run_of(alloc, sheet, stems);
     }
+    // Divided first: so no product is above the length.
+    let back = stems.split_off(stems.len() / threads * (threads / 2))?;
+    let (first, second) = thread::join(
+        rt,
+        move || -> Result<Runs, Memory>
+            requires { IsSync T.row }
+            ensures { IfOk result (AreRunsOf sheet.entry.now.value stems.items) }
+        { runs_of(rt, alloc, sheet, stems, threads / 2) },
+        move || -> Result<Runs, Memory>
+            requires { IsSync T.row }
+            ensures { IfOk result (AreRunsOf sheet.entry.now.value back.items) }
+        { runs_of(rt, alloc, sheet, back, threads - threads / 2) },
+    );
+    let mut runs = first?;
+    let more = second?;
+    put_runs(&mut runs, more)?;
     Ok(runs)
 }
 
@@ -298,19 +308,18 @@ fn with_total(alloc: Global, runs: Runs, stems: usize) -> Result<Vec<Vec<u8>>, M
 const FEWEST: usize = 64;
 
 /// The text of [`buck_text`], for which stems are cut in at most so many threads at once, in pieces: one for each
-/// thread, and last the total.
+/// thread, and last the total. The stems are freed by the threads that cut them.
 pub fn buck_text_in_parts<T: Threads + Sync>(
     rt: &T,
     alloc: Global,
     instruction: &Instruction,
-    stems: &[Stem],
+    stems: Vec<Stem>,
     threads: usize,
 ) -> Result<Vec<Vec<u8>>, TextFault>
-    requires threads { 0 < threads }
-    ensures { IfOk result (λ pieces. IsBuckText instruction.now stems.now (joined pieces.items)) }
+    ensures { IfOk result (λ pieces. IsBuckText instruction.now stems.items (joined pieces.items)) }
 {
     let sheet = base_sheet(alloc, instruction)?;
-    let size = (stems.len() / threads).saturating_add(FEWEST);
-    let runs = runs_of(rt, alloc, &sheet, stems, size)?;
-    Ok(with_total(alloc, runs, stems.len())?)
+    let count = stems.len();
+    let runs = runs_of(rt, alloc, &sheet, stems, threads.min(count / FEWEST))?;
+    Ok(with_total(alloc, runs, count)?)
 }

@@ -42,7 +42,6 @@ fn text_in_parts<T: Threads + Sync, L: Onlooker, R: io::Read>(
     let instruction = read_instruction(alloc, apt)?;
     let stems = read_stems(workers, alloc, stm, 1)?;
     workers.onlooker.read(&instruction, from_ref(&stems));
-    let stems = stems.as_slice();
     Ok(buck_text_in_parts(workers.rt, alloc, &instruction, stems, workers.number)?)
 }
 

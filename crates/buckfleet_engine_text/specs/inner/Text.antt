@@ -6,6 +6,8 @@ use Rattle.buck_value.specs.declared.log.Log.{Log}
 use Rattle.buck_value.specs.Sheet.{SheetParts}
 use Rattle.buck_dp.specs.Best.{IsFirstBest, cutting_worth}
 use Rattle.buckfleet_engine_text.specs.declared.bucking.Lines.{Lines}
+use Rattle.buckfleet_engine_text.specs.declared.bucking.Runs.{Runs}
+use Rattle.buckfleet_engine_text.specs.Text.{joined}
 use Rattle.buckfleet_engine_text.specs.Bucking.{CutStem, IsBucking, stem_lines, logs_of, worth_of_all}
 
 -- a stem was cut, and its lines were put to a text: how many logs there are, and their worth
@@ -28,3 +30,6 @@ pub record AreLines (sheet : SheetParts) (stems : List StemParts) (text : List �
 
 abbrev pub AreLinesOf : SheetParts → List StemParts → Lines → Type 0
 AreLinesOf sheet stems l = AreLines sheet stems l.text.items l.logs l.worth
+
+abbrev pub AreRunsOf : SheetParts → List StemParts → Runs → Type 0
+AreRunsOf sheet stems r = AreLines sheet stems (joined r.texts.items) r.logs r.worth
