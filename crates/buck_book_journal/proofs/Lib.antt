@@ -13,3 +13,4 @@ pub mod Within
 pub mod OnePass
 pub mod Sequence
 pub mod Alone
+pub mod Digits

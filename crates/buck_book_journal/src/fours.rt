@@ -31,7 +31,7 @@ fn is_two(number: u32) -> bool
 }
 
 /// The digits of a number of three.
-#[tactic(auto, using(buck_record::proofs::Three::decimal_of_three))]
+#[tactic(auto, using(crate::proofs::Digits::decimal_of_three))]
 #[inline(always)]
 fn three(number: u32) -> (u8, u8, u8)
     requires { (100 ≤ number) × (number < 1000) }
@@ -43,7 +43,7 @@ fn three(number: u32) -> (u8, u8, u8)
 }
 
 /// The digits of a number of two.
-#[tactic(auto, using(buck_record::proofs::Three::decimal_of_two))]
+#[tactic(auto, using(crate::proofs::Digits::decimal_of_two))]
 #[inline(always)]
 fn two(number: u32) -> (u8, u8)
     requires { (10 ≤ number) × (number < 100) }

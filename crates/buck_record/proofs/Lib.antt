@@ -11,7 +11,6 @@ pub mod RuleLemmas
 pub mod FourLemmas
 pub mod CursorLemmas
 pub mod PartLemmas
-pub mod Three
 pub mod LineLemmas
 pub mod SpacedLemmas
 pub mod TrimLemmas

@@ -18,6 +18,7 @@ use std::alloc::{AllocError, Global};
 
 /// The item of a piece, if it has a head.
 #[tactic(auto, unfolding(crate::specs::bytes::Record::item_of))]
+#[inline(always)]
 pub(crate) fn read_piece<'a>(piece: &'a [u8]) -> Option<Piece<'a>>
     ensures { result ≡ item_of piece.now }
 {
@@ -131,8 +132,7 @@ pub fn numbers(alloc: Global, text: &[u8]) -> Result<Vec<u32>, RecordFault>
             place: held.len() + 1,
         });
     }
-    // The copy has no more room than it needs.
-    Ok(Vec::from_slice(alloc, held.as_slice())?)
+    Ok(held)
 }
 
 /// The one number of a text, if it is at most `most`.

@@ -12,13 +12,13 @@ use crate::bytes::white::trim;
 use crate::checking::table::{is_at, is_in};
 use crate::item::Piece;
 use crate::slot::Slot;
-use bstr::ByteSlice;
+use memchr::memchr;
 
 #[tactic(auto, using(crate::proofs::CursorLemmas::first_found))]
 fn first_tilde(text: &[u8]) -> Option<usize>
     ensures { result ≡ position is_tilde text.now }
 {
-    text.find_byte(b'~')
+    memchr(b'~', text)
 }
 
 /// The bytes up to the first tilde, and those after it.

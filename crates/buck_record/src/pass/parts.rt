@@ -5,7 +5,7 @@ ghost use Rattle.buck_record.specs.pass.Cursor.{Joins};
 
 use crate::pass::cursor::next_in;
 use crate::slot::Slot;
-use bstr::ByteSlice;
+use memchr::memchr;
 
 /// The fewest bytes that are worth a second thread.
 const FEWEST: usize = 131_072;
@@ -19,7 +19,7 @@ fn next_tilde(text: &[u8], from: usize) -> Option<usize>
     ensures within { IfSome result (λ k. k < length text.now) }
     ensures tilde { IfSome result (λ k. is_tilde (slice_index text.now k) ≡ true) }
 {
-    let Some(found) = (&text[from..]).find_byte(b'~') else {
+    let Some(found) = memchr(b'~', &text[from..]) else {
         return None;
     };
     Some(from + found)

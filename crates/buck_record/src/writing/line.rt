@@ -22,45 +22,9 @@ pub fn put_after(out: &mut Vec<u8>, byte: u8, number: u128) -> Result<(), Memory
     };
     out.reserve(digits.len() + 1)?;
     out.push_reserved(byte);
-    out.extend_from_slice(digits.as_bytes())?;
-    Ok(())
-}
-
-/// The byte of a digit.
-#[inline(always)]
-fn byte_of(digit: u32) -> u8
-    requires { digit < 10 }
-    ensures { result ≡ 48 + digit }
-{
-    b'0' + digit as u8
-}
-
-/// Puts a number of at most four digits, after a space.
-#[tactic(auto, using(crate::proofs::Three::few_digits))]
-#[inline(always)]
-fn put_small(out: &mut Vec<u8>, number: u32) -> Result<(), Memory>
-    requires { number < 10000 }
-    ensures put { OnOk result (out.new.items ≡ out.old.items ++ (32 ∷ decimal number)) }
-    ensures kept { OnErr result (out.new.items ≡ out.old.items) }
-{
-    // Nearly all numbers have at most four digits, and these are written without a loop: to use the library's `itoa`
-    // for all costs several per cent of `buck`.
-    if number < 10 {
-        out.extend_from_slice(&[b' ', byte_of(number)])?;
-        return Ok(());
+    for digit in digits.as_bytes() {
+        out.push_reserved(*digit);
     }
-    let ones = byte_of(number % 10);
-    if number < 100 {
-        out.extend_from_slice(&[b' ', byte_of(number / 10), ones])?;
-        return Ok(());
-    }
-    let tens = byte_of(number / 10 % 10);
-    if number < 1000 {
-        out.extend_from_slice(&[b' ', byte_of(number / 100), tens, ones])?;
-        return Ok(());
-    }
-    let hundreds = byte_of(number / 100 % 10);
-    out.extend_from_slice(&[b' ', byte_of(number / 1000), hundreds, tens, ones])?;
     Ok(())
 }
 
@@ -70,9 +34,6 @@ pub fn put_number(out: &mut Vec<u8>, number: u128) -> Result<(), Memory>
     ensures put { OnOk result (out.new.items ≡ out.old.items ++ (32 ∷ decimal number)) }
     ensures kept { OnErr result (out.new.items ≡ out.old.items) }
 {
-    if number < 10_000 {
-        return put_small(out, number as u32);
-    }
     put_after(out, b' ', number)
 }
 

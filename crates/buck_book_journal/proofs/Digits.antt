@@ -1,4 +1,4 @@
--- Numbers of two, three and four digits in decimal.
+-- Numbers of two and three digits in decimal.
 use Rattle.std.proofs.Common.{◌≡◌, ℕ, ◌+◌, ◌/◌, ◌%◌, ◌<◌, ◌≤◌, [], ◌∷◌, arith}
 use Rattle.std.specs.Fmt.{decimal}
 use Rattle.std.proofs.lemmas.Fmt.{decimal_step, decimal_digit}
@@ -11,10 +11,3 @@ decimal_of_two n low high = grind (arith, decimal_step, decimal_digit)
 pub decimal_of_three : (n : ℕ) → 100 ≤ n → n < 1000
     → decimal n ≡ (48 + n / 100) ∷ (48 + n / 10 % 10) ∷ (48 + n % 10) ∷ []
 decimal_of_three n low high = grind (arith, decimal_step, decimal_of_two)
-
--- the thousands, the hundreds, the tens and the ones
-pub decimal_of_four : (n : ℕ) → 1000 ≤ n → n < 10000
-    → decimal n ≡ (48 + n / 1000) ∷ (48 + n / 100 % 10) ∷ (48 + n / 10 % 10) ∷ (48 + n % 10) ∷ []
-decimal_of_four n low high = grind (arith, decimal_step, decimal_of_three)
-
-pub ruleset few_digits = (decimal_digit, decimal_of_two, decimal_of_three, decimal_of_four)
