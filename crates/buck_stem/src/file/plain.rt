@@ -21,8 +21,8 @@ use buck_record::rules::FILE;
 use buck_record::{Listed, Slot, next_of, numbers_into};
 use std::alloc::Global;
 
-/// The longest text of an item, in bytes, that is read here: nearly nine times that of the most samples. A longer one is
-/// nearly always refused, and would be read twice before that.
+/// The longest text of an item, in bytes, that is read here: nearly nine times that of the most samples. A longer one
+/// is nearly always refused, and would be read twice before that.
 const LONGEST: usize = 65_536;
 
 /// Reads the numbers of an item's text into `room`.
