@@ -8,7 +8,7 @@ use Rattle.std.proofs.lemmas.Int.Digits.{digits_value_more}
 use Rattle.std.proofs.lemmas.List.{get_or-take, take-take, take_rest, drop_all}
 use Rattle.std.proofs.lemmas.List.Folds.{list_all_at, list_all_more}
 use Rattle.std.proofs.lemmas.List.Sums.{AllPass-from_list_all, passes_at_first, position_or_len_is}
-use Rattle.std.proofs.lemmas.Bool.{cases_lt, false≢true, and_from, le-leb, lt-ltb, cond-true}
+use Rattle.std.proofs.lemmas.Bool.{cases_lt, false≢true, and_from, and_left, and_right, le-leb, lt-leb, lt-ltb, cond-true, cond-false}
 use Rattle.std.proofs.lemmas.Bool.Decides.{nat_tests}
 use borrow.Author.Count.{below_more}
 use Rattle.buck_record.specs.bytes.White.{is_white}
@@ -28,6 +28,15 @@ pub number-some : (most : ℕ) (word : List ℕ) → AreDigits word → 0 < leng
 unfolding number_at_most
 number-some most word digits filled small =
     cond-true _ _ _ (and_from _ _ (lt-ltb _ _ filled) (and_from _ _ digits (le-leb _ _ small)))
+
+-- it is no number if it has another byte, or is above `most`
+pub number-other : (most : ℕ) (word : List ℕ) → list_all is_ascii_digit word ≡ false → number_at_most most word ≡ None
+unfolding number_at_most
+number-other most word fails = cond-false _ _ _ (and_right _ _ (and_left _ _ fails))
+
+pub number-large : (most : ℕ) (word : List ℕ) → most < digits_value 10 word → number_at_most most word ≡ None
+unfolding number_at_most
+number-large most word large = cond-false _ _ _ (and_right _ _ (and_right _ _ (lt-leb _ _ large)))
 
 pub digit_dark : (c : ℕ) → is_ascii_digit c ≡ true → is_white c ≡ false
 digit_dark c h = grind (arith, nat_tests)

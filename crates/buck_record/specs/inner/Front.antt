@@ -1,5 +1,5 @@
 -- What is read of a text so far: items that are kept, and numbers, one at a time and four at a time.
-use Rattle.std.specs.Prelude.{◌≡◌, ℕ, Bool, ◌+◌, ◌*◌, ◌<◌, ◌≤◌, List, [], ◌∷◌, Result, length, drop, slice_index, Some, if◌then◌else◌}
+use Rattle.std.specs.Prelude.{◌≡◌, ℕ, Bool, ◌+◌, ◌*◌, ◌<◌, ◌≤◌, ◌-◌, List, [], ◌∷◌, Result, length, take, drop, slice_index, Some, if◌then◌else◌}
 use Rattle.buck_record.specs.Item.{ItemParts}
 use Rattle.buck_record.specs.declared.slot.Slot.{Slot}
 use Rattle.buck_record.specs.Reading.{with_front, each_from}
@@ -14,6 +14,10 @@ kept every slots read = if every then read else only_in slots read
 -- the numbers so far, with those of the words that are left
 unfoldable pub adds_on : List ℕ → List ℕ → Result (List ℕ) ℕ
 adds_on now rest = with_front now (each_from (number_at_most 4294967295) (length now + 1) (words rest))
+
+-- the bytes of a text from one place on, up to another
+unfoldable pub span : List ℕ → ℕ → ℕ → List ℕ
+span text start i = take (i - start) (drop start text)
 
 -- the text's first word is the number v, and `left` is what stands after it
 pub record IsFront (text : List ℕ) (v : ℕ) (left : List ℕ) : Type 0 where

@@ -8,7 +8,7 @@ use crate::bytes::white::is_white;
 
 /// Whether a number, with one more digit behind it, is above `most`.
 #[inline(always)]
-fn is_past(most: u64, number: u64, digit: u64) -> bool
+pub(crate) fn is_past(most: u64, number: u64, digit: u64) -> bool
     requires { (number ≤ most) × (digit ≤ 9) }
     ensures past { IsTrue result → most < number * 10 + digit }
     ensures within { IsFalse result → number * 10 + digit ≤ most }

@@ -92,7 +92,7 @@ pub struct OutOfOrder;
 
 /// How many items in none of the slots may stand in a row. More are listed at once: a file of nothing but these would
 /// be gone over twice.
-const MOST_OTHERS: usize = 1000;
+const MOST_OTHERS: usize = 250;
 
 /// The rest of the first item of a text that stands in one of the slots, and what is left of the text after the tilde
 /// that ends it; `None` if no item of the text stands in one. `OutOfOrder` if the item stands in another slot than this

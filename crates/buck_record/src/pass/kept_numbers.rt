@@ -4,32 +4,52 @@ ghost use Rattle.std.specs.Vec.{vec_len, vec_capacity};
 ghost use Rattle.buck_record.specs.bytes.Record.{numbers_of};
 ghost use Rattle.buck_record.specs.inner.Front.{adds_on, HasRoom, four_of};
 
-use crate::bytes::digits::cut_number;
+use crate::bytes::digits::is_past;
 use crate::bytes::white::is_white;
 use crate::pass::lanes::front_fours;
 use std::alloc::AllocError;
 
-/// Passes over the byte that a text begins with, if that is white; or else adds the number that it begins with. What
-/// is left after it, and `None` if there is no such number.
+/// Adds the numbers of a text's words, of a long text those of its first 64 bytes or some more. What is left of the
+/// text, and `None` if a word is no number: then those before it are added.
 #[tactic(auto, using(crate::proofs::EachLemmas::word_steps))]
-#[inline(always)]
-fn append_word<'a>(text: &'a [u8], out: &mut Vec<u32>) -> Option<&'a [u8]>
-    requires some { 0 < length text.now }
+fn append_words<'a>(text: &'a [u8], out: &mut Vec<u32>) -> Option<&'a [u8]>
     requires room { HasRoom (vec_len out.old) (vec_capacity out.old) (length text.now) }
     ensures step { IfSome result (λ left. adds_on out.new.items left.now ≡ adds_on out.old.items text.now) }
-    ensures shorter { IfSome result (λ left. length left.now < length text.now) }
+    ensures shorter { IfSome result (λ left. 0 < length text.now → length left.now < length text.now) }
     ensures room { IfSome result (λ left. 0 < length left.now
         → HasRoom (vec_len out.new) (vec_capacity out.new) (length left.now)) }
     ensures stuck { IfNone result (adds_on out.old.items text.now ≡ Err (length out.new.items + 1)) }
 {
-    if is_white(text[0]) {
-        return Some(&text[1..]);
+    let mut value: u64 = 0;
+    // The word's first byte, or the next one between words.
+    let mut start = 0usize;
+    for (i, byte) in text.iter().enumerate() {
+        if byte.is_ascii_digit() {
+            let digit = u64::from(*byte - b'0');
+            if is_past(4_294_967_295, value, digit) {
+                return None;
+            }
+            value = value * 10 + digit;
+            continue;
+        }
+        if !is_white(*byte) {
+            return None;
+        }
+        if start == i {
+            start = i + 1;
+            continue;
+        }
+        out.push_reserved(value as u32);
+        if i >= 64 {
+            return Some(&text[i + 1..]);
+        }
+        value = 0;
+        start = i + 1;
     }
-    let Some((value, left)) = cut_number(4_294_967_295, text) else {
-        return None;
-    };
-    out.push_reserved(value as u32);
-    Some(left)
+    if start < text.len() {
+        out.push_reserved(value as u32);
+    }
+    Some(&text[text.len()..])
 }
 
 /// Adds four numbers.
@@ -57,7 +77,7 @@ fn append_each(text: &[u8], out: &mut Vec<u32>) -> bool
     ensures refused { IsFalse result → numbers_of text.now ≡ Err (length out.new.items + 1) }
 {
     // Nearly all bytes of a file are samples, most of three digits: without this a whole `buck` takes 15 % more
-    // instructions. A path without a loop for single words of up to four digits gains less than 1 %.
+    // instructions.
     let mut rest = text;
     while !rest.is_empty() {
         if let Some(values) = front_fours(rest) {
@@ -65,16 +85,10 @@ fn append_each(text: &[u8], out: &mut Vec<u32>) -> bool
             rest = &rest[16..];
             continue;
         }
-        // Eight steps of word or whitespace, so that a text of other words isn't tried in vain at each.
-        for _ in 0..8usize {
-            if rest.is_empty() {
-                break;
-            }
-            let Some(left) = append_word(rest, out) else {
-                return false;
-            };
-            rest = left;
-        }
+        let Some(left) = append_words(rest, out) else {
+            return false;
+        };
+        rest = left;
     }
     true
 }

@@ -1,4 +1,4 @@
-use Rattle.std.proofs.Common.{◌≡◌, ◌<◌, ◌≤◌, length}
+use Rattle.std.proofs.Common.{◌≡◌, ◌<◌, length}
 use Rattle.std.specs.Vec.{vec_len, vec_capacity}
 use Rattle.buck_record.specs.bytes.Record.{numbers_of}
 use Rattle.buck_record.specs.inner.Front.{adds_on, HasRoom}
@@ -13,12 +13,3 @@ invariant-loop-rest l = record {
 
 abbrev pub decreases-loop-rest : goal.decreases-loop-rest
 decreases-loop-rest l = length l.rest
-
--- and each turn takes bytes off
-abbrev pub invariant-loop : goal.invariant-loop
-invariant-loop l = record {
-  adding : adds_on l.out.items l.rest ≡ numbers_of l.fn.text;
-  room : 0 < length l.rest → HasRoom (vec_len l.out) (vec_capacity l.out) (length l.rest);
-  within : length l.rest ≤ length l.initial.rest;
-  shorter : 0 < l.counter → length l.rest < length l.initial.rest;
-}
