@@ -1,6 +1,6 @@
 -- What an owner pays for runs, and the lines that say it.
-use Rattle.std.proofs.Common.{◌≡◌, ℕ, ◌+◌, ◌<◌, ◌≤◌, List, [], ◌∷◌, ◌++◌, length, take, drop, get_or, Option, Some, None, Result, Ok, Err, IfErr, IfOk, map, refl, sym, ap, subst, ◌∙◌, arith, append_assoc, append-nil}
-use Rattle.std.specs.Prelude.{◌==◌, Bool, codes, not, slice_get, true, false}
+use Rattle.std.proofs.Common.{◌≡◌, ℕ, ◌+◌, ◌<◌, ◌≤◌, List, [], ◌∷◌, ◌++◌, length, take, drop, get_or, Option, Result, Ok, Err, refl, sym, ap, subst, ◌∙◌, arith, append_assoc, append-nil}
+use Rattle.std.specs.Prelude.{◌==◌, Bool, codes, not, false}
 use Rattle.std.specs.List.{AllZip}
 use Rattle.std.specs.Result.{OnOk}
 use Rattle.std.specs.declared.sync.Arc.{Arc}
@@ -19,7 +19,6 @@ use Rattle.buck_page_cells.specs.Spread.{IsSpread}
 use Rattle.buck_page_figures.specs.Journals.{postings_of}
 use Rattle.buck_book_journal.specs.reading.Journal.{JournalParts}
 use Rattle.buck_book_journal.specs.judging.Replay.{history_of}
-use Rattle.buck_rule.specs.declared.named.NamedRule.{NamedRule}
 use Rattle.buckfleet_trial_sweep.specs.declared.combination.Combination.{Combination}
 use Rattle.buckfleet_trial_sweep.specs.Runs.{IsRunLine}
 use Rattle.buckfleet_trial_sweep.specs.Sweep.{AreLines}
@@ -28,7 +27,7 @@ use Rattle.buckfleet_trial_sweep.proofs.Tables.{lines_both}
 use Rattle.buckfleet_trial_owned.specs.declared.outcome.OwnRun.{OwnRun}
 use Rattle.buckfleet_trial.specs.declared.trial.Drawn.{Drawn}
 use Rattle.buckfleet_trial_owned.specs.Owned.{AreLosses, IsOwnRun, IsOwnTail, IsOwnedLine, IsOwnedOver, losses_in, own_head}
-use Rattle.buckfleet_trial.specs.Trial.{IsBestFor, IsDrawn, IsFromNothing, IsTrialLine, drawn_head}
+use Rattle.buckfleet_trial.specs.Trial.{IsBestFor, IsDrawn, IsFromNothing, drawn_head}
 use Rattle.buckfleet_trial.specs.Wishes.{HasCutOf}
 use Rattle.buckfleet_trial.specs.Lines.{AreDrawnFor, AreLinesFor, IsPut, all_draws, columns_of, draws_of}
 use Rattle.buckfleet_trial_owned.specs.inner.Owned.{AreTails, IsFirstLine, IsPaidFor, IsPutOwned, own_columns}
