@@ -4,18 +4,15 @@ ghost use Rattle.buck_apt.specs.Instruction.{AssortmentParts, classes};
 ghost use Rattle.buck_book_postings.specs.Degree.{part_of};
 ghost use Rattle.buck_book_postings.specs.Posting.{opening_targets};
 ghost use Rattle.buckfleet_trial_sweep.specs.Runs.{IsStop};
-ghost use Rattle.buckfleet_trial.specs.Wishes.{HasCutOf};
 ghost use Rattle.buckfleet_trial.specs.inner.Asking.{AreDrawnBy, AreRunsBy, IsAsking, IsRunBy};
 
-use crate::light::{base_worth, cut_by_name, degrees_of, least_of};
+use crate::light::{base_worth, cut_in_order, degrees_of, least_of};
 use crate::moved::Asked;
 use crate::outcome::{Outcome, Runs};
 use buck_apt::Instruction;
-use buck_book_postings::Parts;
 use buck_rule::NamedRule;
 use buckfleet_engine_files::EngineFault;
 use buckfleet_engine_input::Input;
-use buckfleet_trial_draws::order_from;
 use std::alloc::Global;
 use std::sync::Arc;
 
@@ -33,28 +30,7 @@ pub(crate) struct Asking {
 }
 
 impl Asking {
-    /// What a run of an instruction cuts, in the files' own order or in that of a draw.
-    fn parts(
-        &self,
-        alloc: Global,
-        instruction: &Arc<Instruction>,
-        order: Option<u64>,
-    ) -> Result<Parts, EngineFault>
-        requires few { length self.now.input.lists.items ≤ 64 }
-        ensures ok { IfOk result (HasCutOf self.now.rule instruction.now.value self.now.input.lists.items order) }
-        ensures stop { IfErr result (IsStop self.now.input.lists.items) }
-    {
-        let lists = self.input.lists.as_slice();
-        match order {
-            None => cut_by_name(alloc, instruction, self.rule, lists),
-            Some(start) => {
-                let order = order_from(alloc, start, lists)?;
-                cut_by_name(alloc, instruction, self.rule, order.as_slice())
-            }
-        }
-    }
-
-    /// The run of an instruction in such an order.
+    /// The run of an instruction, in the files' own order or in that of a draw.
     pub(crate) fn run(
         &self,
         alloc: Global,
@@ -66,7 +42,8 @@ impl Asking {
         ensures ok { IfOk result (IsRunBy self.now instruction.now.value order) }
         ensures stop { IfErr result (IsStop self.now.input.lists.items) }
     {
-        let parts = self.parts(alloc, instruction, order)?;
+        let lists = self.input.lists.as_slice();
+        let parts = cut_in_order(alloc, instruction, self.rule, lists, order)?;
         let targets = self.targets.as_slice();
         let degrees = degrees_of(alloc, instruction, targets, parts.counts())?;
         Ok(Outcome {
