@@ -1,7 +1,7 @@
 //! Sheets from their prices, and the classes of logs.
 use crate::fixtures::{base_of, sheet_with};
 use buck_value::{Sheet, SheetFault, class_of};
-use fixture_samples::{MAX, SAW, SAW_AND_POLE, edited, saw_text, uniform_stem};
+use fixture_samples::{MAX, SAW, uniform_stem};
 use std::test::Fail;
 
 /// The number of samples and the diameter of a stem, the start, the length and the assortment of a log, and its row and
@@ -34,50 +34,45 @@ fn is_classed(rt: &HostRuntime, sheet: &Sheet, row: Classed) -> Result<bool, Fai
     Ok(class.map(|found| (found.row, found.column)) == want)
 }
 
-/// The place of the first row, counted from 1, of which the class differs; 0 if none does.
-fn wrong_class(rt: &HostRuntime, sheet: &Sheet) -> Result<usize, Fail> {
-    let mut at: usize = 0;
+/// Whether the log of each row has its class.
+fn are_classed(rt: &HostRuntime, sheet: &Sheet) -> Result<bool, Fail> {
     for row in CLASSES {
-        at = at.saturating_add(1);
         if !is_classed(rt, sheet, row)? {
-            return Ok(at);
+            return Ok(false);
         }
     }
-    Ok(0)
+    Ok(true)
 }
 
 #[test]
 fn class_limits(rt: HostRuntime) -> Result<(), Fail> {
     let sheet = base_of(&rt, SAW)?;
-    assert_eq!(rt; wrong_class(&rt, &sheet)?, 0);
+    assert!(rt; are_classed(&rt, &sheet)?);
     Ok(())
 }
 
-/// Instructions of the saw: its prices may not shift, or by half, or by half if the first is 3; or with poles, by half;
-/// or the one of the largest numbers.
-#[derive(Clone, Copy)]
-enum Saw {
-    Fixed,
-    Half,
-    Cheap,
-    Poles,
-    Largest,
-}
+/// The saw instruction, of which prices may shift by half.
+const HALF: &str = "1 2 APT~901 1 100~902 1 1~903 1 500~910 1 1~
+911 1 saw~912 1 1~913 1 1~914 1 1~915 1 100 200~915 2 400~
+916 1 3000 4000~917 1 400 500 600 800~918 1 1 1 1 1~
+";
 
-/// The text of one of them.
-fn text_of(rt: &HostRuntime, saw: Saw) -> Result<String, Fail> {
-    let text = match saw {
-        Saw::Fixed => saw_text(rt.alloc(), 1, 0, "1 1 1 1")?,
-        Saw::Half => saw_text(rt.alloc(), 1, 500, "1 1 1 1")?,
-        Saw::Cheap => {
-            let half = saw_text(rt.alloc(), 1, 500, "1 1 1 1")?;
-            edited(rt.alloc(), half.as_str(), "917 1 400", "917 1 3")?
-        }
-        Saw::Poles => edited(rt.alloc(), SAW_AND_POLE, "903 1 0", "903 1 500")?,
-        Saw::Largest => format!(in rt.alloc(); "{MAX}")?,
-    };
-    Ok(text)
-}
+/// The same with a first price of 3.
+const CHEAP: &str = "1 2 APT~901 1 100~902 1 1~903 1 500~910 1 1~
+911 1 saw~912 1 1~913 1 1~914 1 1~915 1 100 200~915 2 400~
+916 1 3000 4000~917 1 3 500 600 800~918 1 1 1 1 1~
+";
+
+/// The same with poles, by the piece.
+const POLES: &str = "1 2 APT~901 1 100~902 1 1~903 1 500~910 1 2~
+911 1 saw~912 1 1~913 1 1~914 1 1~915 1 100 200~915 2 400~
+916 1 3000 4000~917 1 400 500 600 800~918 1 1 1 1 1~
+911 1 pole~912 1 1~913 1 1~914 1 2~915 1 100 200~915 2 400~
+916 1 3000 4000~917 1 0 0 100 0~918 1 1 1 1 1~
+";
+
+/// Instructions: the prices of the saw may not shift.
+const TEXTS: [&str; 5] = [SAW, HALF, CHEAP, POLES, MAX];
 
 /// Prices fit, or aren't as many as classes, or that at this place is out of its span.
 #[derive(Clone, Copy)]
@@ -87,80 +82,82 @@ enum Want {
     At(usize),
 }
 
-type Priced = (Saw, &'static [u32], Want);
+/// The place of an instruction among these, how many prices there are, and the prices.
+type Priced = (usize, usize, [u32; 8], Want);
 
 const PRICES: [Priced; 20] = [
-    (Saw::Fixed, &[400, 500, 600, 800], Want::Fit),
-    (Saw::Fixed, &[], Want::Count),
-    (Saw::Fixed, &[401, 500, 600], Want::Count),
-    (Saw::Fixed, &[400, 500, 600, 800, 1], Want::Count),
-    (Saw::Fixed, &[401, 500, 600, 800], Want::At(0)),
-    (Saw::Fixed, &[400, 500, 601, 799], Want::At(2)),
-    (Saw::Half, &[200, 250, 300, 400], Want::Fit),
-    (Saw::Half, &[600, 750, 900, 1200], Want::Fit),
-    (Saw::Half, &[199, 500, 600, 800], Want::At(0)),
-    (Saw::Half, &[400, 751, 600, 800], Want::At(1)),
-    (Saw::Cheap, &[1, 500, 600, 800], Want::At(0)),
-    (Saw::Cheap, &[2, 500, 600, 800], Want::Fit),
-    (Saw::Cheap, &[4, 500, 600, 800], Want::Fit),
-    (Saw::Cheap, &[5, 500, 600, 800], Want::At(0)),
-    (Saw::Poles, &[400, 500, 600, 800, 0, 1, 151, 0], Want::At(5)),
-    (Saw::Poles, &[400, 500, 600, 800, 0, 0, 151, 0], Want::At(6)),
-    (Saw::Poles, &[400, 500, 600, 800, 0, 0, 150, 0], Want::Fit),
-    (Saw::Largest, &[0, 20_000_000], Want::Fit),
-    (Saw::Largest, &[0, 20_000_001], Want::At(1)),
-    (Saw::Largest, &[u32::MAX, 0], Want::At(0)),
+    (0, 4, [400, 500, 600, 800, 0, 0, 0, 0], Want::Fit),
+    (0, 0, [0, 0, 0, 0, 0, 0, 0, 0], Want::Count),
+    (0, 3, [401, 500, 600, 0, 0, 0, 0, 0], Want::Count),
+    (0, 5, [400, 500, 600, 800, 1, 0, 0, 0], Want::Count),
+    (0, 4, [401, 500, 600, 800, 0, 0, 0, 0], Want::At(0)),
+    (0, 4, [400, 500, 601, 799, 0, 0, 0, 0], Want::At(2)),
+    (1, 4, [200, 250, 300, 400, 0, 0, 0, 0], Want::Fit),
+    (1, 4, [600, 750, 900, 1200, 0, 0, 0, 0], Want::Fit),
+    (1, 4, [199, 500, 600, 800, 0, 0, 0, 0], Want::At(0)),
+    (1, 4, [400, 751, 600, 800, 0, 0, 0, 0], Want::At(1)),
+    (2, 4, [1, 500, 600, 800, 0, 0, 0, 0], Want::At(0)),
+    (2, 4, [2, 500, 600, 800, 0, 0, 0, 0], Want::Fit),
+    (2, 4, [4, 500, 600, 800, 0, 0, 0, 0], Want::Fit),
+    (2, 4, [5, 500, 600, 800, 0, 0, 0, 0], Want::At(0)),
+    (3, 8, [400, 500, 600, 800, 0, 1, 151, 0], Want::At(5)),
+    (3, 8, [400, 500, 600, 800, 0, 0, 151, 0], Want::At(6)),
+    (3, 8, [400, 500, 600, 800, 0, 0, 150, 0], Want::Fit),
+    (4, 2, [0, 20_000_000, 0, 0, 0, 0, 0, 0], Want::Fit),
+    (4, 2, [0, 20_000_001, 0, 0, 0, 0, 0, 0], Want::At(1)),
+    (4, 2, [u32::MAX, 0, 0, 0, 0, 0, 0, 0], Want::At(0)),
 ];
 
-/// Whether prices are refused as the row says, or not.
+/// Whether a row's prices are refused as it says, or not.
 fn is_priced(rt: &HostRuntime, row: Priced) -> Result<bool, Fail> {
-    let text = text_of(rt, row.0)?;
-    let want = match row.2 {
+    let (place, count, prices, want) = row;
+    let want = match want {
         Want::Fit => None,
         Want::Count => Some(SheetFault::Count),
         Want::At(at) => Some(SheetFault::Price { at }),
     };
-    Ok(sheet_with(rt, text.as_str(), row.1)?.err() == want)
+    let prices = prices.as_slice().get(..count).unwrap_or(&[]);
+    Ok(sheet_with(rt, TEXTS[place % 5], prices)?.err() == want)
 }
 
-/// The place of the first row, counted from 1, that is refused otherwise; 0 if none is.
-fn wrong_prices(rt: &HostRuntime) -> Result<usize, Fail> {
-    let mut at: usize = 0;
+/// The same of all rows.
+fn are_priced(rt: &HostRuntime) -> Result<bool, Fail> {
     for row in PRICES {
-        at = at.saturating_add(1);
         if !is_priced(rt, row)? {
-            return Ok(at);
+            return Ok(false);
         }
     }
-    Ok(0)
+    Ok(true)
 }
 
 #[test]
 fn prices_within_their_spans(rt: HostRuntime) -> Result<(), Fail> {
-    assert_eq!(rt; wrong_prices(&rt)?, 0);
+    assert!(rt; are_priced(&rt)?);
     Ok(())
 }
 
-/// Whether a copy of the sheet of these prices is the same, and of version 1 as that is.
-fn is_copied(rt: &HostRuntime, text: &str, prices: &[u32]) -> Result<bool, Fail> {
-    let Ok(sheet) = sheet_with(rt, text, prices)? else {
-        return Ok(false);
-    };
-    let copy = sheet.copy(rt.alloc())?;
-    Ok(copy.same(&sheet) && copy.version() == 1)
-}
-
-#[test]
-fn copies(rt: HostRuntime) -> Result<(), Fail> {
-    let text = text_of(&rt, Saw::Half)?;
-    assert!(rt; is_copied(&rt, text.as_str(), &[200, 250, 300, 400])?);
-    Ok(())
+/// Whether a fault has this text.
+fn reads(rt: &HostRuntime, fault: SheetFault, want: &str) -> bool {
+    match format!(in rt.alloc(); "{fault}") {
+        Ok(text) => text.as_str() == want,
+        Err(_) => false,
+    }
 }
 
 #[test]
-fn texts_of_faults(rt: HostRuntime) -> Result<(), Fail> {
-    let texts = format!(in rt.alloc(); "{}; {}", SheetFault::Count, SheetFault::Price { at: 2 })?;
-    let want = "there is not one price for each class; the price of class 2 is out of its span";
-    assert_eq!(rt; texts.as_str(), want);
-    Ok(())
+fn texts_of_faults(rt: HostRuntime) {
+    assert!(rt;
+        reads(
+            &rt,
+            SheetFault::Count,
+            "there is not one price for each class"
+        )
+    );
+    assert!(rt;
+        reads(
+            &rt,
+            SheetFault::Price { at: 2 },
+            "the price of class 2 is out of its span"
+        )
+    );
 }
