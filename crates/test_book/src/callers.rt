@@ -2,10 +2,10 @@
 //! what the next call asks for.
 ghost use Rattle.std.specs.Prelude.{◌≡◌, ◌<◌, ◌≤◌, IfOk, ◌∷◌, [], ◌++◌};
 ghost use Rattle.buck_rule.specs.Stored.{Answers};
+ghost use Rattle.buck_book_postings.specs.History.{in_force};
 
-use buck_apt::Instruction;
 use buck_book_postings::{Book, Demand, DemandRefusal, Entry, Plan, Posting, Refusal};
-use buck_rule::{Rule, Standing};
+use buck_rule::Standing;
 use buck_stem::Stem;
 use std::alloc::Global;
 use std::sync::Arc;
@@ -29,6 +29,14 @@ pub fn commit_both<F: Fn(&Standing) -> u64>(
     Ok((one, two))
 }
 
+/// A plan for a stem under the sheet in force.
+pub fn plan_for<F: Drop>(alloc: Global, book: &Book<F>, stem: &Arc<Stem>) -> Result<Plan, Refusal>
+    ensures { IfOk result (λ plan. (plan.sheet ≡ in_force book.now.history) × (plan.stem ≡ stem.now.value)) }
+{
+    let sheet = book.sheet().clone()?;
+    Ok(Plan::make(alloc, sheet, stem.clone()?)?)
+}
+
 /// Plans a stem under the sheet in force, and commits the plan for a harvester from 1 to 64.
 pub fn cut<F: Fn(&Standing) -> u64 + Drop>(
     alloc: Global,
@@ -40,41 +48,9 @@ pub fn cut<F: Fn(&Standing) -> u64 + Drop>(
     requires harvester { (0 < harvester) × (harvester ≤ 64) }
     ensures rule { book.new.rule ≡ book.old.rule }
 {
-    let plan = Plan::make(alloc, book.sheet().clone()?, stem.clone()?)?;
+    let plan = plan_for(alloc, book, stem)?;
     let ready = book.prepare(alloc, &plan)?;
     Ok(book.commit(ready, harvester, plan))
-}
-
-/// Cuts a stem so often for harvester 1.
-pub fn cut_times<F: Fn(&Standing) -> u64 + Drop>(
-    alloc: Global,
-    book: &mut Book<F>,
-    stem: &Arc<Stem>,
-    number: u32,
-) -> Result<(), Refusal>
-    requires { Answers F.Fn book.old.rule }
-    ensures { book.new.rule ≡ book.old.rule }
-{
-    for _ in 0..number {
-        let _ = cut(alloc, book, stem, 1)?;
-    }
-    Ok(())
-}
-
-/// A new book for ten entries, in which a stem was cut so often.
-pub fn day<F: Fn(&Standing) -> u64 + Drop>(
-    alloc: Global,
-    instruction: Arc<Instruction>,
-    rule: Rule<F>,
-    stem: &Arc<Stem>,
-    number: u32,
-) -> Result<Book<F>, Refusal>
-    requires { Answers F.Fn rule }
-    ensures { IfOk result (λ book. book.rule ≡ rule) }
-{
-    let mut book = Book::open(alloc, instruction, rule, 10)?;
-    cut_times(alloc, &mut book, stem, number)?;
-    Ok(book)
 }
 
 /// Puts new targets in force for a harvester from 1 to 64.

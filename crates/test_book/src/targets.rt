@@ -16,20 +16,14 @@ const TARGETS: [(&[u32], Option<TargetsFault>); 5] = [
     ),
 ];
 
-/// The place of the first row, counted from 1, that is judged otherwise; 0 if none is.
-fn wrong_targets(saw: &Instruction) -> usize {
-    let mut at: usize = 0;
-    for (targets, want) in TARGETS {
-        at = at.saturating_add(1);
-        if check_targets(saw, targets).err() != want {
-            return at;
-        }
-    }
-    0
-}
+/// The first of 1,024 targets, how many after it are 0 if all others are 1,000,000, and what is wrong with them.
+const MANY: [(u32, usize, Option<TargetsFault>); 3] = [
+    (1_000_000, 0, Some(TargetsFault::Sum { assortment: 0 })),
+    (1, 23, Some(TargetsFault::Sum { assortment: 0 })),
+    (0, 23, None),
+];
 
-/// Of 1,024 targets, of which the first has this number and so many after it are 0 and all others 1,000,000: what is wrong
-/// with them.
+/// What is wrong with such targets.
 fn fault_of_many(
     rt: &HostRuntime,
     instruction: &Instruction,
@@ -43,14 +37,30 @@ fn fault_of_many(
     Ok(check_targets(instruction, targets.as_slice()).err())
 }
 
+/// Whether these many are judged so.
+fn are_judged(rt: &HostRuntime, instruction: &Instruction) -> Result<bool, Fail> {
+    for (first, zeros, want) in MANY {
+        if fault_of_many(rt, instruction, first, zeros)? != want {
+            return Ok(false);
+        }
+    }
+    Ok(true)
+}
+
+/// Whether those of the saw instruction are judged so.
+fn are_judged_by_saw(saw: &Instruction) -> bool {
+    for (targets, want) in TARGETS {
+        if check_targets(saw, targets).err() != want {
+            return false;
+        }
+    }
+    true
+}
+
 #[test]
 fn targets(rt: HostRuntime) -> Result<(), Fail> {
     let saw = saw_instruction(rt.alloc(), 1, 500, "1 1 1 1")?;
-    assert_eq!(rt; wrong_targets(&saw), 0);
     let many = largest_instruction(rt.alloc())?;
-    let above = Some(TargetsFault::Sum { assortment: 0 });
-    assert!(rt; fault_of_many(&rt, &many, 1_000_000, 0)? == above);
-    assert!(rt; fault_of_many(&rt, &many, 1, 23)? == above);
-    assert!(rt; fault_of_many(&rt, &many, 0, 23)?.is_none());
+    assert!(rt; are_judged_by_saw(&saw) && are_judged(&rt, &many)?);
     Ok(())
 }
