@@ -2,28 +2,34 @@
 ghost use Rattle.std.specs.Prelude.{◌≡◌};
 ghost use Rattle.buck_rule.specs.Stored.{Answers};
 
+use buck_apt::Instruction;
 use buck_fleet_world::{Event, Memory, Stage, StepFault, World};
 use buck_rule::Standing;
 use buck_stem::Stem;
-use fixture_samples::uniform_stem;
+use fixture_samples::{saw_instruction, uniform_stem};
 use std::sync::Arc;
 use std::test::Fail;
 
-/// What a harvester does, with the stem and the targets of the kit.
+/// What is done, with the stem and the targets of the kit; a read is of a version.
 #[derive(Clone, Copy)]
-pub enum Do {
-    Read(u32, u32),
-    Plan(u32),
-    Try(u32),
-    Locked(u32),
-    Retarget(u32),
-    Raise(u32),
-    Leave(u32),
+pub enum Act {
+    Read(u32),
+    Plan,
+    Try,
+    Locked,
+    Raise,
+    Retarget,
+    Leave,
 }
 
-/// A stem to be cut and targets to be put in force.
+/// What a harvester does.
+#[derive(Clone, Copy)]
+pub struct Do(pub Act, pub u32);
+
+/// The instruction of a world, a stem to be cut and targets to be put in force.
 #[derive(Drop)]
 pub struct Kit {
+    pub instruction: Arc<Instruction>,
     pub stem: Arc<Stem>,
     pub targets: Arc<Vec<u32>>,
 }
@@ -46,60 +52,58 @@ pub const NO: Option<StepFault> = Some(StepFault::NotAllowed);
 /// The history is full.
 pub const FULL: Option<StepFault> = Some(StepFault::Full);
 
-/// A stem of 4,000 mm and 250 mm, and these targets.
-pub fn kit_of(rt: &HostRuntime, targets: &[u32]) -> Result<Kit, Fail> {
+/// The saw instruction with this period in stems, a stem of 4,000 mm and 250 mm, and targets for logs of one class alone.
+pub fn kit_of(rt: &HostRuntime, period: u32) -> Result<Kit, Fail> {
+    let instruction = saw_instruction(rt.alloc(), period, 500, "1 1 1 1")?;
     let stem = Arc::new(rt.alloc(), uniform_stem(rt.alloc(), 41, 250)?)?;
-    let targets = Arc::new(rt.alloc(), Vec::from_slice(rt.alloc(), targets)?)?;
-    Ok(Kit { stem, targets })
+    let targets = Arc::new(rt.alloc(), Vec::from_slice(rt.alloc(), &[0, 0, 0, 4])?)?;
+    Ok(Kit {
+        instruction,
+        stem,
+        targets,
+    })
 }
 
 /// The event of what a harvester does.
 fn event_of(kit: &Kit, what: Do) -> Result<Event, Memory> {
-    Ok(match what {
-        Do::Read(harvester, version) => Event::Read { harvester, version },
-        Do::Plan(harvester) => Event::Plan {
+    let Do(act, harvester) = what;
+    Ok(match act {
+        Act::Read(version) => Event::Read { harvester, version },
+        Act::Plan => Event::Plan {
             harvester,
             stem: kit.stem.clone()?,
         },
-        Do::Try(harvester) => Event::Try { harvester },
-        Do::Locked(harvester) => Event::Locked {
+        Act::Try => Event::Try { harvester },
+        Act::Locked => Event::Locked {
             harvester,
             stem: kit.stem.clone()?,
         },
-        Do::Retarget(harvester) => Event::Retarget {
+        Act::Retarget => Event::Retarget {
             harvester,
             targets: kit.targets.clone()?,
         },
-        Do::Raise(harvester) => Event::Raise { harvester },
-        Do::Leave(harvester) => Event::Leave { harvester },
+        Act::Raise => Event::Raise { harvester },
+        Act::Leave => Event::Leave { harvester },
     })
 }
 
-/// The answer of a step if memory isn't refused.
-fn told(answer: Result<(), StepFault>) -> Result<Option<StepFault>, Memory> {
-    match answer {
-        Ok(()) => Ok(None),
-        Err(StepFault::Memory) => Err(Memory),
-        Err(fault) => Ok(Some(fault)),
-    }
-}
-
-/// Does one thing: the answer, unless memory is refused.
+/// Does one thing, and once more if memory was refused, which is then noted: the answer.
 pub fn go<F: Fn(&Standing) -> u64 + Drop>(
     rt: &HostRuntime,
     world: &mut World<F>,
     kit: &Kit,
     what: Do,
+    is_short: &mut bool,
 ) -> Result<Option<StepFault>, Memory>
     requires { Answers F.Fn world.old.rule }
     ensures { world.new.rule ≡ world.old.rule }
 {
-    told(world.step(rt.alloc(), event_of(kit, what)?))
-}
-
-/// Whether a world has so many postings, this version in force and this front.
-pub fn is<F: Drop>(world: &World<F>, postings: usize, version: u32, front: u32) -> bool {
-    world.entries().len() == postings && world.version() == version && world.front() == front
+    let told = world.step(rt.alloc(), event_of(kit, what)?).err();
+    if told != Some(StepFault::Memory) {
+        return Ok(told);
+    }
+    *is_short = true;
+    Ok(world.step(rt.alloc(), event_of(kit, what)?).err())
 }
 
 /// Where a stage is.

@@ -1,12 +1,12 @@
-//! Tests of the world: runs worked out by hand, a search over all short runs, the texts of its faults, and refused memory.
+//! Tests of the world: runs worked out by hand, a search over all short runs, refused memory, and the texts of its faults.
 #![tactic(auto)]
 
 #[cfg(test)]
 mod fixtures;
 #[cfg(test)]
-mod memory;
-#[cfg(test)]
 mod plain;
+#[cfg(test)]
+mod playing;
 #[cfg(test)]
 mod runs;
 #[cfg(test)]

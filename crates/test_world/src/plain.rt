@@ -1,5 +1,5 @@
 //! A plain second writing of the table of events, over numbers alone.
-use crate::fixtures::{Do, FULL, NO, OK, Place};
+use crate::fixtures::{Act, Do, FULL, NO, OK, Place};
 use buck_fleet_world::StepFault;
 
 /// What one harvester is at.
@@ -14,9 +14,9 @@ pub struct Seat {
 /// since the last end, the version in force, the front, and the harvesters.
 #[derive(Clone, Copy)]
 pub struct Plain {
-    pub capacity: usize,
+    pub capacity: u32,
     pub period: u32,
-    pub harvesters: usize,
+    pub harvesters: u32,
     pub postings: usize,
     pub cuts: u32,
     pub version: u32,
@@ -24,17 +24,17 @@ pub struct Plain {
     pub seats: [Seat; 3],
 }
 
-/// The opening.
-pub fn opened(harvesters: usize, capacity: usize, period: u32) -> Plain {
+/// The opening of a world of so many harvesters, with this capacity and this period in stems.
+pub fn opened(world: (u32, u32, u32)) -> Plain {
     let seat = Seat {
         place: Place::Idle,
         seen: 0,
         stale: 0,
     };
     Plain {
-        capacity,
-        period,
-        harvesters,
+        capacity: world.1,
+        period: world.2,
+        harvesters: world.0,
         postings: 0,
         cuts: 0,
         version: 0,
@@ -43,25 +43,18 @@ pub fn opened(harvesters: usize, capacity: usize, period: u32) -> Plain {
     }
 }
 
-/// Who does it.
-fn who(what: Do) -> u32 {
-    match what {
-        Do::Read(h, _) => h,
-        Do::Plan(h) | Do::Try(h) | Do::Locked(h) | Do::Retarget(h) | Do::Raise(h) | Do::Leave(h) =>
-            h,
-    }
-}
-
 /// Whether a harvester may do it, by the table.
-fn may(plain: &Plain, seat: Seat, what: Do) -> bool {
-    let free = plain.seats.iter().all(|s| s.place != Place::Answered);
-    match (what, seat.place) {
-        (Do::Read(_, v), Place::Idle) => seat.stale < 3 && seat.seen <= v && v <= plain.front,
-        (Do::Plan(_), Place::Reading) => true,
-        (Do::Try(_), Place::Planned) => free,
-        (Do::Locked(_) | Do::Retarget(_), Place::Idle | Place::Reading) => free,
-        (Do::Raise(_), Place::Answered) => true,
-        (Do::Leave(_), Place::Idle | Place::Reading | Place::Planned) => true,
+fn may(plain: &Plain, seat: Seat, act: Act) -> bool {
+    let free = plain.seats[0].place != Place::Answered
+        && plain.seats[1].place != Place::Answered
+        && plain.seats[2].place != Place::Answered;
+    match (act, seat.place) {
+        (Act::Read(v), Place::Idle) => seat.stale < 3 && seat.seen <= v && v <= plain.front,
+        (Act::Plan, Place::Reading) => true,
+        (Act::Try, Place::Planned) => free,
+        (Act::Locked | Act::Retarget, Place::Idle | Place::Reading) => free,
+        (Act::Raise, Place::Answered) => true,
+        (Act::Leave, Place::Idle | Place::Reading | Place::Planned) => true,
         _ => false,
     }
 }
@@ -77,32 +70,32 @@ fn add(plain: &mut Plain, is_cut: bool) {
 }
 
 /// What becomes of the harvester, and of the rest.
-fn follow(plain: &mut Plain, mut seat: Seat, what: Do) -> Seat {
-    match what {
-        Do::Read(_, v) => {
+fn follow(plain: &mut Plain, mut seat: Seat, act: Act) -> Seat {
+    match act {
+        Act::Read(v) => {
             seat.seen = v;
             seat.place = Place::Reading;
         }
-        Do::Plan(_) => seat.place = Place::Planned,
-        Do::Try(_) if seat.seen < plain.version => {
+        Act::Plan => seat.place = Place::Planned,
+        Act::Try if seat.seen < plain.version => {
             seat.stale = seat.stale.saturating_add(1);
             seat.place = Place::Idle;
         }
-        Do::Try(_) | Do::Locked(_) => {
+        Act::Try | Act::Locked => {
             add(plain, true);
             seat.place = Place::Answered;
         }
-        Do::Retarget(_) => {
+        Act::Retarget => {
             add(plain, false);
             seat.place = Place::Answered;
         }
-        Do::Raise(_) => {
+        Act::Raise => {
             plain.front = plain.version;
             seat.seen = plain.version;
             seat.stale = 0;
             seat.place = Place::Idle;
         }
-        Do::Leave(_) => {
+        Act::Leave => {
             seat.stale = 0;
             seat.place = Place::Idle;
         }
@@ -112,19 +105,21 @@ fn follow(plain: &mut Plain, mut seat: Seat, what: Do) -> Seat {
 
 /// Does one thing: the answer.
 pub fn does(plain: &mut Plain, what: Do) -> Option<StepFault> {
-    let h = who(what) as usize;
-    if h == 0 || h > plain.harvesters || h > 3 {
+    let Do(act, harvester) = what;
+    let h = harvester as usize;
+    if harvester == 0 || harvester > plain.harvesters || h > 3 {
         return NO;
     }
     let seat = plain.seats[h - 1];
-    if !may(plain, seat, what) {
+    if !may(plain, seat, act) {
         return NO;
     }
-    let adds = matches!(what, Do::Try(_) | Do::Locked(_) | Do::Retarget(_));
-    if adds && plain.postings == plain.capacity {
+    if matches!(act, Act::Try | Act::Locked | Act::Retarget)
+        && plain.postings == plain.capacity as usize
+    {
         return FULL;
     }
-    let after = follow(plain, seat, what);
+    let after = follow(plain, seat, act);
     plain.seats[h - 1] = after;
     OK
 }

@@ -1,7 +1,6 @@
 //! The texts of a world's faults.
 use buck_book_postings::TargetsFault;
 use buck_fleet_world::StepFault;
-use std::test::Fail;
 
 /// Each fault and its text.
 const TEXTS: [(StepFault, &str); 5] = [
@@ -18,13 +17,17 @@ const TEXTS: [(StepFault, &str); 5] = [
     ),
 ];
 
-#[test]
-fn texts_of_faults(rt: HostRuntime) -> Result<(), Fail> {
-    let mut are_right = true;
-    for (fault, want) in TEXTS {
-        let text = format!(in rt.alloc(); "{fault}")?;
-        are_right = are_right && text.as_str() == want;
+/// Whether a fault has this text.
+fn reads(rt: &HostRuntime, fault: StepFault, want: &str) -> bool {
+    match format!(in rt.alloc(); "{fault}") {
+        Ok(text) => text.as_str() == want,
+        Err(_) => false,
     }
-    assert!(rt; are_right);
-    Ok(())
+}
+
+#[test]
+fn texts_of_faults(rt: HostRuntime) {
+    for (fault, want) in TEXTS {
+        assert!(rt; reads(&rt, fault, want));
+    }
 }
