@@ -9,168 +9,167 @@ use std::sync::Wait;
 use std::test::Fail;
 use std::thread::Threads;
 
-/// So many first plans of harvester 1, which cuts one stem, are held, each until so many calls of harvester 2 were
-/// answered; the answers to all calls, and the versions of harvester 1's plans.
+/// So many first plans of harvester 1 are held, each until so many calls of others were answered; what each harvester
+/// does; the answers to all calls, or the last one, and the versions of harvester 1's plans.
 #[derive(Clone, Copy)]
-struct Row<'a> {
+struct Row {
     held: (u64, u64),
     period: u32,
-    others: &'a [Do<'a>],
-    told: &'a [(u32, Told)],
-    versions: &'a [u32],
+    lists: &'static [&'static [Do<'static>]],
+    told: &'static [(u32, Told)],
+    postings: usize,
+    versions: &'static [u32],
 }
 
-/// The plan is stale by then, and a second one, under the next sheet, is committed.
-const SECOND_ATTEMPT: Row<'static> = Row {
-    held: (1, 1),
-    period: 1,
-    others: &[Do::Await(1), Do::Cut(41)],
-    told: &[
-        (2, Told::Cut(0, 1, Path::Optimistic)),
-        (1, Told::Cut(1, 2, Path::Optimistic)),
-    ],
-    versions: &[0, 1],
-};
+/// One cut.
+const CUT: &[Do<'static>] = &[Do::Cut(41)];
 
-/// Held in all three attempts it then plans under the lock.
-const LOCKED_PLAN: Row<'static> = Row {
-    held: (3, 1),
-    period: 1,
-    others: &[
-        Do::Await(1),
-        Do::Cut(41),
-        Do::Await(2),
-        Do::Cut(41),
-        Do::Await(3),
-        Do::Cut(41),
-    ],
-    told: &[
-        (2, Told::Cut(0, 1, Path::Optimistic)),
-        (2, Told::Cut(1, 1, Path::Optimistic)),
-        (2, Told::Cut(2, 1, Path::Optimistic)),
-        (1, Told::Cut(3, 3, Path::Locked)),
-    ],
-    versions: &[0, 1, 2],
-};
+/// One cut once harvester 1 has made a plan.
+const CUT_LATER: &[Do<'static>] = &[Do::Await(1), Do::Cut(41)];
 
-/// A call of another that doesn't end the period leaves the plan as good as it was.
-const WITHIN_A_PERIOD: Row<'static> = Row {
-    held: (1, 1),
-    period: 2,
-    others: &[Do::Await(1), Do::Cut(41)],
-    told: &[
-        (2, Told::Cut(0, 1, Path::Optimistic)),
-        (1, Told::Cut(1, 1, Path::Optimistic)),
-    ],
-    versions: &[0],
-};
+const ROWS: [Row; 7] = [
+    // The plan is stale by then, and a second one, under the next sheet, is committed.
+    Row {
+        held: (1, 1),
+        period: 1,
+        lists: &[CUT, CUT_LATER],
+        told: &[
+            (2, Told::Cut(0, 1, Path::Optimistic)),
+            (1, Told::Cut(1, 2, Path::Optimistic)),
+        ],
+        postings: 2,
+        versions: &[0, 1],
+    },
+    // Held in all three attempts it then plans under the lock.
+    Row {
+        held: (3, 1),
+        period: 1,
+        lists: &[
+            CUT,
+            &[
+                Do::Await(1),
+                Do::Cut(41),
+                Do::Await(2),
+                Do::Cut(41),
+                Do::Await(3),
+                Do::Cut(41),
+            ],
+        ],
+        told: &[
+            (2, Told::Cut(0, 1, Path::Optimistic)),
+            (2, Told::Cut(1, 1, Path::Optimistic)),
+            (2, Told::Cut(2, 1, Path::Optimistic)),
+            (1, Told::Cut(3, 3, Path::Locked)),
+        ],
+        postings: 4,
+        versions: &[0, 1, 2],
+    },
+    // A call of another that doesn't end the period leaves the plan as good as it was.
+    Row {
+        held: (1, 1),
+        period: 2,
+        lists: &[CUT, CUT_LATER],
+        told: &[
+            (2, Told::Cut(0, 1, Path::Optimistic)),
+            (1, Told::Cut(1, 1, Path::Optimistic)),
+        ],
+        postings: 2,
+        versions: &[0],
+    },
+    // Two calls of another end the period.
+    Row {
+        held: (1, 2),
+        period: 2,
+        lists: &[CUT, &[Do::Await(1), Do::Cut(41), Do::Cut(41)]],
+        told: &[
+            (2, Told::Cut(0, 1, Path::Optimistic)),
+            (2, Told::Cut(1, 1, Path::Optimistic)),
+            (1, Told::Cut(2, 2, Path::Optimistic)),
+        ],
+        postings: 3,
+        versions: &[0, 1],
+    },
+    // A demand of another ends the period, though no stem was cut in it.
+    Row {
+        held: (1, 1),
+        period: 1000,
+        lists: &[CUT, &[Do::Await(1), Do::Retarget(&[0, 0, 0, 4])]],
+        told: &[(2, Told::Demand(0)), (1, Told::Cut(1, 2, Path::Optimistic))],
+        postings: 2,
+        versions: &[0, 1],
+    },
+    // One harvester alone never plans under the lock: each first plan is committed, under the newest sheet.
+    Row {
+        held: (0, 0),
+        period: 1,
+        lists: &[&[Do::Cut(41), Do::Cut(41), Do::Cut(41)]],
+        told: &[
+            (1, Told::Cut(0, 1, Path::Optimistic)),
+            (1, Told::Cut(1, 1, Path::Optimistic)),
+            (1, Told::Cut(2, 1, Path::Optimistic)),
+        ],
+        postings: 3,
+        versions: &[0, 1, 2],
+    },
+    // The calls of three other harvesters begin and end while harvester 1 stands between its plan and its commit: nobody
+    // holds the lock while planning.
+    Row {
+        held: (1, 3),
+        period: 4,
+        lists: &[CUT, CUT_LATER, CUT_LATER, CUT_LATER],
+        told: &[(1, Told::Cut(3, 1, Path::Optimistic))],
+        postings: 4,
+        versions: &[0],
+    },
+];
 
-/// Two calls of another end the period.
-const PAST_A_PERIOD: Row<'static> = Row {
-    held: (1, 2),
-    period: 2,
-    others: &[Do::Await(1), Do::Cut(41), Do::Cut(41)],
-    told: &[
-        (2, Told::Cut(0, 1, Path::Optimistic)),
-        (2, Told::Cut(1, 1, Path::Optimistic)),
-        (1, Told::Cut(2, 2, Path::Optimistic)),
-    ],
-    versions: &[0, 1],
-};
-
-/// A demand of another ends the period, though no stem was cut in it.
-const UNTIL_A_DEMAND: Row<'static> = Row {
-    held: (1, 1),
-    period: 1000,
-    others: &[Do::Await(1), Do::Retarget(&[0, 0, 0, 4])],
-    told: &[(2, Told::Demand(0)), (1, Told::Cut(1, 2, Path::Optimistic))],
-    versions: &[0, 1],
-};
-
-/// What a harvester does that cuts one stem once harvester 1 has made a plan.
-const CUTS_LATER: [Do<'static>; 2] = [Do::Await(1), Do::Cut(41)];
-
-/// Whether these were the answers to the calls, harvester 1 made plans of these versions for stems of 4,000 mm, and
-/// there is a posting for each call.
-fn has_gone<R: Wait>(
-    rt: &R,
-    closed: &Closed,
-    stage: &Stage,
-    told: &[(u32, Told)],
-    versions: &[u32],
-) -> bool {
-    stage.has_told(rt, told)
-        && stage.has_noted(rt, versions, LONG)
-        && closed.entries().len() == told.len()
+/// Whether the answers to the calls were those of a row, harvester 1 made its plans for stems of 4,000 mm, and there is a
+/// posting for each call.
+fn has_gone<R: Wait>(rt: &R, closed: &Closed, stage: &Stage, row: Row) -> bool {
+    let is_told = match row.told {
+        [(harvester, told)] => stage.was_told_last(rt, *harvester, *told),
+        all => stage.has_told(rt, all),
+    };
+    is_told
+        && stage.has_noted(rt, row.versions, LONG)
+        && closed.entries().len() == row.postings
         && has_all_kept(closed)
 }
 
-/// Whether a row holds.
-fn holds<R: Threads + Wait + Sync>(rt: &R, alloc: Global, row: Row<'static>) -> Result<bool, Fail> {
-    let stage = Stage::holding(alloc, row.held.0, row.held.1)?;
-    let lists = [
-        Vec::from_slice(alloc, &[Do::Cut(41)])?,
-        Vec::from_slice(alloc, row.others)?,
-    ];
-    let closed = steady_lists(rt, alloc, row.period, lists.as_slice(), &stage)?;
-    Ok(has_gone(rt, &closed, &stage, row.told, row.versions))
+/// Lists of their own of what harvesters do.
+fn owned(alloc: Global, lists: &[&'static [Do<'static>]]) -> Result<Vec<Vec<Do<'static>>>, Fail> {
+    let mut all = Vec::new(alloc);
+    for list in lists {
+        all.push(Vec::from_slice(alloc, list)?)?;
+    }
+    Ok(all)
 }
 
-/// The number, from 1, of the first row that doesn't hold, and 0 if all do.
-fn first_wrong<R: Threads + Wait + Sync>(
+/// A play of a row.
+fn play<R: Threads + Wait + Sync>(
     rt: &R,
     alloc: Global,
-    rows: &[Row<'static>],
-) -> Result<usize, Fail> {
-    for (i, row) in rows.iter().enumerate() {
-        if !holds(rt, alloc, *row)? {
-            return Ok(i.saturating_add(1));
-        }
+    row: Row,
+    stage: &Stage,
+) -> Result<Closed, Fail> {
+    let lists = owned(alloc, row.lists)?;
+    if lists.len() == 0 || lists.len() > 64 {
+        return Err(Fail::new("not 1 to 64 lists"));
     }
-    Ok(0)
+    steady_lists(rt, alloc, row.period, lists.as_slice(), stage)
 }
 
-#[test]
-fn gated_attempts(rt: HostRuntime) -> Result<(), Fail> {
-    let rows = [
-        SECOND_ATTEMPT,
-        LOCKED_PLAN,
-        WITHIN_A_PERIOD,
-        PAST_A_PERIOD,
-        UNTIL_A_DEMAND,
-    ];
-    assert!(rt; first_wrong(&rt, rt.alloc(), rows.as_slice())? == 0);
-    Ok(())
+/// Whether a row holds.
+fn holds<R: Threads + Wait + Sync>(rt: &R, alloc: Global, row: Row) -> Result<bool, Fail> {
+    let stage = Stage::holding(alloc, row.held.0, row.held.1)?;
+    let closed = play(rt, alloc, row, &stage)?;
+    Ok(has_gone(rt, &closed, &stage, row))
 }
 
-/// One harvester alone never plans under the lock: each first plan is committed, under the newest sheet.
-#[test]
-fn always_locked(rt: HostRuntime) -> Result<(), Fail> {
-    let stage = Stage::open(rt.alloc())?;
-    let cuts = [Do::Cut(41), Do::Cut(41), Do::Cut(41)];
-    let closed = step_play(&rt, rt.alloc(), (1, 0, 100), &cuts, &stage)?;
-    let told = [
-        (1, Told::Cut(0, 1, Path::Optimistic)),
-        (1, Told::Cut(1, 1, Path::Optimistic)),
-        (1, Told::Cut(2, 1, Path::Optimistic)),
-    ];
-    assert!(rt; has_gone(&rt, &closed, &stage, &told, &[0, 1, 2]));
-    Ok(())
-}
-
-/// The calls of three other harvesters begin and end while harvester 1 stands between its plan and its commit: nobody
-/// holds the lock while planning.
 #[test]
 fn lock_held_while_planning(rt: HostRuntime) -> Result<(), Fail> {
-    let stage = Stage::holding(rt.alloc(), 1, 3)?;
-    let lists = [
-        Vec::from_slice(rt.alloc(), &[Do::Cut(41)])?,
-        Vec::from_slice(rt.alloc(), &CUTS_LATER)?,
-        Vec::from_slice(rt.alloc(), &CUTS_LATER)?,
-        Vec::from_slice(rt.alloc(), &CUTS_LATER)?,
-    ];
-    let closed = steady_lists(&rt, rt.alloc(), 4, lists.as_slice(), &stage)?;
-    assert!(rt; stage.was_told_last(&rt, 1, Told::Cut(3, 1, Path::Optimistic)));
-    assert!(rt; stage.has_noted(&rt, &[0], LONG) && closed.entries().len() == 4);
+    for row in ROWS {
+        assert!(rt; holds(&rt, rt.alloc(), row)?);
+    }
     Ok(())
 }

@@ -29,46 +29,32 @@ fn class_of(diameter: u64, length: u64) -> Option<usize> {
     }
 }
 
-/// How many logs of a class an entry has.
-fn logs_in(entry: &Entry, class: usize) -> u64 {
+/// Counts the logs of an entry, each in its class.
+fn count_logs(counts: &mut [u64; 4], entry: &Entry) {
     let diameter = diameter_of(entry);
-    let mut count = 0u64;
     for log in entry.cutting.logs.as_slice() {
-        if class_of(diameter, u64::from(log.length)) == Some(class) {
-            count = count.saturating_add(1);
+        match class_of(diameter, u64::from(log.length)) {
+            Some(class) if class < 4 => counts[class] = counts[class].saturating_add(1),
+            _ => {}
         }
     }
-    count
-}
-
-/// How many logs of a class were cut.
-pub fn count_in(postings: &[Posting], class: usize) -> u64 {
-    let mut count = 0u64;
-    for posting in postings {
-        if let Posting::Cut(entry) = posting {
-            count = count.saturating_add(logs_in(entry, class));
-        }
-    }
-    count
 }
 
 /// How many logs were cut in each class.
 pub fn counts_of(postings: &[Posting]) -> [u64; 4] {
-    [
-        count_in(postings, 0),
-        count_in(postings, 1),
-        count_in(postings, 2),
-        count_in(postings, 3),
-    ]
+    let mut counts = [0; 4];
+    for posting in postings {
+        if let Posting::Cut(entry) = posting {
+            count_logs(&mut counts, entry);
+        }
+    }
+    counts
 }
 
 /// All logs of all classes.
 fn sum_of(counts: &[u64; 4]) -> u64 {
-    let mut sum = 0u64;
-    for count in counts {
-        sum = sum.saturating_add(*count);
-    }
-    sum
+    let [a, b, c, d] = *counts;
+    a.saturating_add(b).saturating_add(c).saturating_add(d)
 }
 
 /// The degree of apportionment in hundredths of a per cent. None if nothing was cut.
@@ -112,22 +98,15 @@ fn price_of(class: usize, limit: u64, count: u64, all: u64) -> u64 {
 fn is_right_sheet(sheet: &Sheet, limit: u64, before: &[Posting]) -> bool {
     let counts = counts_of(before);
     let all = sum_of(&counts);
-    let prices = sheet.prices();
-    if prices.len() != 4 {
-        return false;
-    }
-    for (class, count) in counts.iter().enumerate() {
-        let want = price_of(class, limit, *count, all);
-        match prices.get(class) {
-            Some(price) => {
-                if u64::from(*price) != want {
-                    return false;
-                }
-            }
-            None => return false,
+    match sheet.prices() {
+        [a, b, c, d] => {
+            u64::from(*a) == price_of(0, limit, counts[0], all)
+                && u64::from(*b) == price_of(1, limit, counts[1], all)
+                && u64::from(*c) == price_of(2, limit, counts[2], all)
+                && u64::from(*d) == price_of(3, limit, counts[3], all)
         }
+        _ => false,
     }
-    true
 }
 
 /// Whether all sheets are right, and there is one more than periods that ended.
@@ -158,10 +137,7 @@ fn worth_of_log(prices: &[u32], diameter: u64, length: u64) -> u64 {
     let square = diameter.saturating_mul(diameter).saturating_mul(length);
     let volume = square.saturating_mul(7854) / 10_000_000;
     match class_of(diameter, length) {
-        Some(class) => match prices.get(class) {
-            Some(price) => volume.saturating_mul(u64::from(*price)),
-            None => 0,
-        },
+        Some(class) => volume.saturating_mul(u64::from(*prices.get(class).unwrap_or(&0))),
         None => 0,
     }
 }
@@ -185,46 +161,27 @@ fn worth_of_entry(entry: &Entry, prices: &[u32]) -> Option<u64> {
     Some(worth)
 }
 
-/// The most that one log is worth between these two places.
-fn best_log(prices: &[u32], diameter: u64, from: u64, to: u64) -> u64 {
-    let mut most = 0u64;
-    for length in [3000u64, 4000] {
-        if from.saturating_add(length) <= to {
-            most = most.max(worth_of_log(prices, diameter, length));
-        }
-    }
-    most
-}
-
-/// The most that one log is worth that begins at a place or after it.
-fn best_log_after(prices: &[u32], diameter: u64, from: u64, to: u64) -> u64 {
-    let mut most = 0u64;
-    for point in 0..90u64 {
-        let start = point * 100;
-        if from <= start {
-            most = most.max(best_log(prices, diameter, start, to));
-        }
-    }
-    most
-}
-
-/// The most that a list of one or two logs is worth whose first log has this place and length.
-fn best_list_with(prices: &[u32], diameter: u64, start: u64, length: u64, to: u64) -> u64 {
-    let end = start.saturating_add(length);
-    if end > to {
-        return 0;
-    }
-    worth_of_log(prices, diameter, length).saturating_add(best_log_after(prices, diameter, end, to))
-}
-
-/// The most that a list of logs is worth: a stem shorter than 9,000 mm has at most two.
+/// The most that a list of logs is worth: a stem shorter than 9,000 mm has at most two, at 90 places and of two lengths.
 fn best_list(prices: &[u32], diameter: u64, to: u64) -> u64 {
+    let worths = [
+        worth_of_log(prices, diameter, 3000),
+        worth_of_log(prices, diameter, 4000),
+    ];
     let mut most = 0u64;
-    for point in 0..90u64 {
-        let start = point * 100;
-        let short = best_list_with(prices, diameter, start, 3000, to);
-        let long = best_list_with(prices, diameter, start, 4000, to);
-        most = most.max(short).max(long);
+    for a in 0..180u64 {
+        let end = a / 2 * 100 + 3000 + a % 2 * 1000;
+        let first = if end <= to {
+            worths[(a % 2) as usize]
+        } else {
+            0
+        };
+        most = most.max(first);
+        for b in 0..180u64 {
+            let start = b / 2 * 100;
+            if first > 0 && end <= start && start + 3000 + b % 2 * 1000 <= to {
+                most = most.max(first.saturating_add(worths[(b % 2) as usize]));
+            }
+        }
     }
     most
 }

@@ -3,41 +3,39 @@ use crate::judge::{counts_of, degree_of, worth_of};
 use buck_fleet::Closed;
 use fixture_plays::fixtures::*;
 use fixture_plays::stage::Meeting;
+use std::alloc::Global;
+use std::sync::Wait;
 use std::test::Fail;
+use std::thread::Threads;
 
-/// Whether so many logs of the third class were cut, and none of the others.
-fn are_of_third_class(counts: &[u64; 4], number: u64) -> bool {
-    counts.as_slice() == [0, 0, number, 0].as_slice()
-}
-
-/// Whether there are so many entries, each of two logs of the third class, and they are worth this.
-fn has_totals(closed: &Closed, entries: u64, worth: u64) -> bool {
+/// Whether there are so many entries, each of two logs of the third class, a sheet after each, and they are worth this.
+fn has_totals(closed: &Closed, entries: usize, worth: u64) -> bool {
     let postings = closed.entries();
-    if postings.len() as u64 != entries {
-        return false;
-    }
-    if !are_of_third_class(&counts_of(postings), entries.saturating_mul(2)) {
-        return false;
-    }
-    degree_of(postings) == Some(2500) && worth_of(postings) == worth
+    postings.len() == entries
+        && closed.sheets().len() == entries.saturating_add(1)
+        && has_all_kept(closed)
+        && counts_of(postings) == [0, 0, (entries as u64).saturating_mul(2), 0]
+        && degree_of(postings) == Some(2500)
+        && worth_of(postings) == worth
+}
+
+/// Whether so many harvesters meet, and cut so many stems each that are together worth this.
+fn meet<R: Threads + Wait + Sync>(
+    rt: &R,
+    alloc: Global,
+    seats: usize,
+    number: usize,
+    worth: u64,
+) -> Result<bool, Fail> {
+    let meeting = Meeting::of(seats as u64);
+    let lists = lists_of(alloc, seats, number, 61)?;
+    let closed = whole(steady_evening(rt, alloc, 100, lists.as_slice(), &meeting)?)?;
+    Ok(meeting.have_met() && has_totals(&closed, seats.saturating_mul(number), worth))
 }
 
 #[test]
-fn fleet_on_one_thread(rt: HostRuntime) -> Result<(), Fail> {
-    let meeting = Meeting::of(2);
-    let lists = lists_of(rt.alloc(), 2, 10, 61)?;
-    let closed = whole(steady_evening(&rt, rt.alloc(), 100, lists.as_slice(), &meeting)?)?;
-    assert!(rt; meeting.have_met() && has_totals(&closed, 20, 3_534_288_000));
-    assert!(rt; closed.sheets().len() == 21 && has_all_kept(&closed));
-    Ok(())
-}
-
-#[test]
-fn fleet_of_sixty_four(rt: HostRuntime) -> Result<(), Fail> {
-    let meeting = Meeting::of(64);
-    let lists = lists_of(rt.alloc(), 64, 1, 61)?;
-    let closed = whole(steady_evening(&rt, rt.alloc(), 100, lists.as_slice(), &meeting)?)?;
-    assert!(rt; meeting.have_met() && has_totals(&closed, 64, 11_309_721_600));
-    assert!(rt; closed.sheets().len() == 65 && has_all_kept(&closed));
+fn fleets_that_meet(rt: HostRuntime) -> Result<(), Fail> {
+    assert!(rt; meet(&rt, rt.alloc(), 2, 10, 3_534_288_000)?);
+    assert!(rt; meet(&rt, rt.alloc(), 64, 1, 11_309_721_600)?);
     Ok(())
 }

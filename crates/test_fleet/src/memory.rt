@@ -4,15 +4,10 @@ use fixture_plays::fixtures::*;
 use fixture_plays::play::{Do, PlayFault};
 use fixture_plays::stage::Stage;
 use fixture_plays::turns::*;
+use std::alloc::Global;
+use std::sync::Wait;
 use std::test::Fail;
-
-/// Ends a test in which memory was refused to a call with an error that says so.
-fn with_memory_all_along(stage: &Stage) -> Result<(), Fail> {
-    if stage.was_refused() {
-        return Err(Fail::from(PlayFault::Memory));
-    }
-    Ok(())
-}
+use std::thread::Threads;
 
 /// Whether a cut, a plan of its own, a demand and a cut are the postings, and are kept.
 fn has_one_of_each(closed: &Closed) -> bool {
@@ -35,19 +30,26 @@ fn has_one_of_each(closed: &Closed) -> bool {
         && has_all_kept(closed)
 }
 
-/// A call that is refused for want of memory is made once more: the history is that of ample memory.
-#[test]
-fn refused_memory_of_each_call(rt: HostRuntime) -> Result<(), Fail> {
-    let stage = Stage::patient(rt.alloc())?;
+/// Whether each call is made once more that is refused for want of memory, and the history is that of ample memory then.
+fn goes_on<R: Threads + Wait + Sync>(rt: &R, alloc: Global, stage: &Stage) -> Result<bool, Fail> {
     let whats = [
         Do::Cut(41),
         Do::Commit(41),
         Do::Retarget(&[0, 0, 0, 4]),
         Do::Cut(41),
     ];
-    let closed = step_play(&rt, rt.alloc(), (1, 500, 100), &whats, &stage)?;
-    assert!(rt; has_one_of_each(&closed));
-    with_memory_all_along(&stage)
+    let closed = step_play(rt, alloc, (1, 500, 100), &whats, stage)?;
+    Ok(has_one_of_each(&closed))
+}
+
+#[test]
+fn refused_memory_of_each_call(rt: HostRuntime) -> Result<(), Fail> {
+    let stage = Stage::patient(rt.alloc())?;
+    assert!(rt; goes_on(&rt, rt.alloc(), &stage)?);
+    if stage.was_refused() {
+        return Err(Fail::from(PlayFault::Memory));
+    }
+    Ok(())
 }
 
 /// Whether a run of two lists of four stems that stopped so may have these entries, which the two seats kept: if one
@@ -65,13 +67,21 @@ fn may_have(closed: &Closed, stopped: Option<RunFault>) -> bool {
     }
 }
 
-/// A run in which a harvester is refused memory: it stops, and the other goes on; all seats come back, and the fleet
-/// closes well.
+/// Whether a run in which a harvester is refused memory stops it, and the other goes on: all seats come back, and the
+/// fleet closes well. And whether one was refused.
+fn stops<R: Threads + Wait + Sync>(rt: &R, alloc: Global) -> Result<(bool, bool), Fail> {
+    let lists = lists_of(alloc, 2, 4, 61)?;
+    let evening = steady_evening(rt, alloc, 100, lists.as_slice(), &NoGate)?;
+    let is_right = may_have(&evening.closed, evening.stopped);
+    Ok((is_right, evening.stopped.is_some()))
+}
+
 #[test]
 fn refused_memory_of_a_run(rt: HostRuntime) -> Result<(), Fail> {
-    let lists = lists_of(rt.alloc(), 2, 4, 61)?;
-    let evening = steady_evening(&rt, rt.alloc(), 100, lists.as_slice(), &NoGate)?;
-    assert!(rt; may_have(&evening.closed, evening.stopped));
-    let _evening = with_memory_to_run(evening)?;
+    let (is_right, is_stopped) = stops(&rt, rt.alloc())?;
+    assert!(rt; is_right);
+    if is_stopped {
+        return Err(Fail::from(RunFault::Memory));
+    }
     Ok(())
 }
