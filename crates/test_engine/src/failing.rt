@@ -129,31 +129,58 @@ fn keeps<T: Threads + Wait + Sync>(
         .kept(engine.texts(), lengths)
 }
 
-/// The writer and the write at which a run doesn't end as it must, if there is one: what was written before is there, of
-/// the report only after the whole journal.
+/// How many bytes of both texts are there if the writer at a place has trouble at this write: of the report only after the
+/// whole journal.
+fn lengths_before(engine: Engine, place: usize, write: usize) -> [usize; 2] {
+    let [journal, _] = engine.texts();
+    if place == 0 {
+        return [given_before(journal, write).len(), 0];
+    }
+    let [front, rest] = engine.pieces();
+    let later = given_before(rest, write.saturating_sub(calls_of(front))).len();
+    let length = given_before(front, write).len().saturating_add(later);
+    [journal.len(), length]
+}
+
+/// How many writes the writer at a place is given.
+fn writes_to(engine: Engine, place: usize) -> usize {
+    let [journal, _] = engine.texts();
+    let [front, rest] = engine.pieces();
+    if place == 0 {
+        calls_of(journal)
+    } else {
+        calls_of(front).saturating_add(calls_of(rest))
+    }
+}
+
+/// Whether a run ends as it must if the writer at a place fails at this write, and if it takes nothing.
+fn keeps_at<T: Threads + Wait + Sync>(
+    rt: &T,
+    alloc: Global,
+    engine: Engine,
+    place: usize,
+    write: usize,
+) -> bool
+    requires { place < 2 }
+{
+    let lengths = lengths_before(engine, place, write);
+    let mut fails = [Trouble::Nothing; 2];
+    fails[place] = Trouble::Fails(write);
+    let mut ends = [Trouble::Nothing; 2];
+    ends[place] = Trouble::Ends(write);
+    keeps(rt, alloc, engine, fails, lengths) && keeps(rt, alloc, engine, ends, lengths)
+}
+
+/// The writer and the write at which a run doesn't end as it must, if there is one.
 fn wrong_write<T: Threads + Wait + Sync>(
     rt: &T,
     alloc: Global,
     engine: Engine,
 ) -> Option<(usize, usize)> {
-    let [journal, _] = engine.texts();
-    for write in 1..calls_of(journal).saturating_add(1) {
-        let lengths = [given_before(journal, write).len(), 0];
-        for trouble in [Trouble::Fails(write), Trouble::Ends(write)] {
-            if !keeps(rt, alloc, engine, [trouble, Trouble::Nothing], lengths) {
-                return Some((0, write));
-            }
-        }
-    }
-    let [front, rest] = engine.pieces();
-    let calls = calls_of(front);
-    for write in 1..calls.saturating_add(calls_of(rest)).saturating_add(1) {
-        let later = given_before(rest, write.saturating_sub(calls)).len();
-        let length = given_before(front, write).len().saturating_add(later);
-        let lengths = [journal.len(), length];
-        for trouble in [Trouble::Fails(write), Trouble::Ends(write)] {
-            if !keeps(rt, alloc, engine, [Trouble::Nothing, trouble], lengths) {
-                return Some((1, write));
+    for place in 0..2usize {
+        for write in 1..writes_to(engine, place).saturating_add(1) {
+            if !keeps_at(rt, alloc, engine, place, write) {
+                return Some((place, write));
             }
         }
     }
@@ -167,11 +194,15 @@ fn writes(rt: HostRuntime) {
     }
 }
 
+/// Whether an engine that reads and writes byte after byte writes its texts.
+fn writes_bytes<T: Threads + Wait + Sync>(rt: &T, alloc: Global, engine: Engine) -> bool {
+    let run = engine.run_by(rt, alloc, 1);
+    run.wrote(engine.texts()) && run.text.writes == engine.texts()[1].len()
+}
+
 #[test]
 fn byte_after_byte(rt: HostRuntime) {
     for engine in ENGINES {
-        let run = engine.run_by(&rt, rt.alloc(), 1);
-        assert!(rt; run.wrote(engine.texts()), "{engine:?}");
-        assert!(rt; run.text.writes == engine.texts()[1].len(), "{engine:?}");
+        assert!(rt; writes_bytes(&rt, rt.alloc(), engine), "{engine:?}");
     }
 }

@@ -7,8 +7,6 @@ mod failing;
 #[cfg(test)]
 mod faults;
 #[cfg(test)]
-mod journals;
-#[cfg(test)]
 mod lengths;
 #[cfg(test)]
 mod meetings;

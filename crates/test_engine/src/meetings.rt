@@ -6,9 +6,11 @@ use crate::work::apt_and_stm;
 use buck_rule::NamedRule;
 use buckfleet_engine::{FleetTask, Order, Settings, serve_fleet};
 use buckfleet_engine_files::{Make, Onlooker, Open};
+use std::alloc::Global;
+use std::sync::Wait;
 use std::sync::atomic::{AtomicBool, AtomicU64, Ordering};
 use std::test::Fail;
-use std::thread;
+use std::thread::{self, Threads};
 
 /// How many turns of a loop a harvester waits at most.
 const MOST_TURNS: u64 = 50_000_000;
@@ -66,26 +68,34 @@ impl Onlooker for Meeting {
     }
 }
 
-#[test]
-fn files_on_one_thread(rt: HostRuntime) -> Result<(), Fail> {
-    let mut stms = Vec::new(rt.alloc());
-    stms.push("one")?;
-    stms.push("two")?;
-    let task = FleetTask {
+/// A fleet over two files.
+fn task(alloc: Global) -> Result<FleetTask<'static>, Fail> {
+    let mut stms = Vec::new(alloc);
+    stms.extend_from_slice(&["one", "two"])?;
+    Ok(FleetTask {
         order: Order::AtOnce,
         rule: NamedRule::Step,
         settings: Settings::own(),
         journal: None,
         apt: "apt",
         stms,
-    };
+    })
+}
+
+/// Whether a fleet is cut whose first two plans meet.
+fn meet<T: Threads + Wait + Sync>(rt: &T, alloc: Global, task: &FleetTask<'_>) -> bool {
     let meeting = Meeting {
         come: AtomicU64::new(0),
         is_late: AtomicBool::new(false),
     };
     let mut output = Sink::of(usize::MAX);
-    let outcome = serve_fleet(&rt, rt.alloc(), &task, &meeting, &mut Shelf, &mut output);
-    assert!(rt; outcome.is_ok());
-    assert!(rt; !meeting.is_late.load(Ordering::SeqCst));
+    let outcome = serve_fleet(rt, alloc, task, &meeting, &mut Shelf, &mut output);
+    outcome.is_ok() && !meeting.is_late.load(Ordering::SeqCst)
+}
+
+#[test]
+fn files_on_one_thread(rt: HostRuntime) -> Result<(), Fail> {
+    let task = task(rt.alloc())?;
+    assert!(rt; meet(&rt, rt.alloc(), &task));
     Ok(())
 }

@@ -143,6 +143,24 @@ impl Engine {
         [&text[..at], &text[at..]]
     }
 
+    /// What a fleet writes of these files, at once or in turn.
+    fn run_fleet<'a, T: Threads + Wait + Sync>(
+        self,
+        rt: &T,
+        alloc: Global,
+        apt: &mut Source<'a>,
+        stms: &mut [Source<'a>; 2],
+        journal: &mut Sink,
+        text: &mut Sink,
+    ) -> Result<(), EngineFault> {
+        let rule = Rule::new(|s: &Standing| step(s));
+        if self == Engine::Turns {
+            run_in_turn(alloc, apt, stms, rule, Some(journal), text)
+        } else {
+            run_fleet_files(rt, alloc, apt, stms, rule, Some(journal), text)
+        }
+    }
+
     /// A run over these files, into these writers of the journal and the text.
     pub fn run<T: Threads + Wait + Sync>(
         self,
@@ -154,7 +172,6 @@ impl Engine {
         let [mut first, second, third] = files;
         let [mut journal, mut text] = sinks;
         let mut others = [second, third];
-        let rule = Rule::new(|s: &Standing| step(s));
         let outcome = match self {
             Engine::Bare => run_bare(alloc, &mut first, &mut text),
             Engine::Buck => run_buck(alloc, &mut first, &mut others[0], &mut text),
@@ -182,23 +199,9 @@ impl Engine {
                     &mut text,
                 )
             }
-            Engine::Fleet => run_fleet_files(
-                rt,
-                alloc,
-                &mut first,
-                &mut others,
-                rule,
-                Some(&mut journal),
-                &mut text,
-            ),
-            Engine::Turns => run_in_turn(
-                alloc,
-                &mut first,
-                &mut others,
-                rule,
-                Some(&mut journal),
-                &mut text,
-            ),
+            Engine::Fleet | Engine::Turns => {
+                self.run_fleet(rt, alloc, &mut first, &mut others, &mut journal, &mut text)
+            }
         };
         Ending {
             outcome,
