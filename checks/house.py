@@ -78,7 +78,6 @@ WIDE = {
     "buck_stem": 1,
     "buck_dp": 1,
     "buck_book_postings": 4,
-    "buck_book_journal": 1,
     "buck_fleet": 2,
     "buck_page": 10,
     "buckfleet_engine_page": 8,

@@ -1,16 +1,1 @@
-pub mod Words
-pub mod Tuples
-pub mod Limits
-pub mod Walk
-pub mod Replays
-pub mod Judged
-pub mod Made
-pub mod Faults
-pub mod NoFault
-pub mod Lines
-pub mod Texts
-pub mod Within
-pub mod OnePass
-pub mod Sequence
-pub mod Alone
-pub mod Digits
+pub mod Periods

@@ -1,10 +1,10 @@
 -- How a journal's fault is reported: its number, then its fields in the order of their definition. Memory that ran out
 -- has no number.
 use Rattle.std.specs.Prelude.{ℕ, List, [], ◌∷◌}
-use Rattle.buck_book_journal.specs.declared.reading.fault.JournalFault.{JournalFault}
-use Rattle.buck_book_journal.specs.declared.reading.fault.JournalFault.TheVariants as journal
-use Rattle.buck_book_journal.specs.declared.judging.fault.ReplayFault.{ReplayFault}
-use Rattle.buck_book_journal.specs.declared.judging.fault.ReplayFault.TheVariants as replay
+use Rattle.buck_book_journal.specs.declared.journal_fault.JournalFault.{JournalFault}
+use Rattle.buck_book_journal.specs.declared.journal_fault.JournalFault.TheVariants as journal
+use Rattle.buck_book_journal.specs.declared.replay_fault.ReplayFault.{ReplayFault}
+use Rattle.buck_book_journal.specs.declared.replay_fault.ReplayFault.TheVariants as replay
 
 abbrev pub journal_numbers : JournalFault → List ℕ
 journal_numbers (journal.Head item) = 1 ∷ item ∷ []

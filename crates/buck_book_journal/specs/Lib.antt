@@ -1,7 +1,3 @@
-pub mod Written
-pub mod reading
-pub mod judging
-pub mod Ranges
+pub mod Journal
 pub mod Several
 pub mod Faults
-pub mod inner

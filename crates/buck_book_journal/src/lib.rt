@@ -1,18 +1,13 @@
-//! Journals of a history: their text, and what a reader of that text gives back.
+//! Journals of a history: what one holds, the items of its text, and what a reader and a replay find wrong with it.
 #![tactic(auto)]
 
-mod fours;
-mod judging;
-pub mod laws;
-mod reading;
-mod writing;
+mod described;
+mod journal;
+mod journal_fault;
+mod replay_fault;
+pub mod slots;
 
-pub use buck_record::Memory;
-pub use judging::fault::ReplayFault;
-pub use judging::replaying::{Stop, replay, replay_in_order, replay_in_parts, replay_to_end};
-pub use reading::described::ITEMS;
-pub use reading::fault::JournalFault;
-pub use reading::journal::{Journal, read_journal};
-pub use reading::parallel::read_journal_in_parts;
-pub use reading::slots;
-pub use writing::journal_text;
+pub use described::ITEMS;
+pub use journal::Journal;
+pub use journal_fault::JournalFault;
+pub use replay_fault::ReplayFault;

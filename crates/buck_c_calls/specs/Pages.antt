@@ -3,8 +3,8 @@ use Rattle.std.specs.Prelude.{◌≡◌, ◌<◌, ◌≤◌, ℕ, ◌⊎◌, Lis
 use Rattle.std.specs.Str.{IsUtf8}
 use Rattle.buck_apt.specs.Apt.{apt_of}
 use Rattle.buck_book_postings.specs.History.{IsLawful}
-use Rattle.buck_book_journal.specs.judging.Replay.{IsFirstFault}
-use Rattle.buck_book_journal.specs.declared.judging.fault.ReplayFault.{ReplayFault}
+use Rattle.buck_book_replay.specs.Replay.{IsFirstFault}
+use Rattle.buck_book_journal.specs.declared.replay_fault.ReplayFault.{ReplayFault}
 use Rattle.buckfleet_engine_files.specs.declared.fault.EngineFault.{EngineFault}
 use Rattle.buckfleet_engine_files.specs.declared.fault.EngineFault.TheVariants.{Replay}
 use Rattle.buckfleet_engine_files.specs.Faults.{status_of}

@@ -6,8 +6,7 @@ use Rattle.buck_apt.specs.Instruction.{InstructionParts}
 use Rattle.buck_book_postings.specs.declared.posting.Posting.{Posting}
 use Rattle.buck_book_postings.specs.declared.posting.Posting.TheVariants.{Cut, Demand}
 use Rattle.buck_book_postings.specs.History.{IsLawful}
-use Rattle.buck_book_journal.specs.reading.Journal.{JournalParts}
-use Rattle.buck_book_journal.specs.judging.Replay.{history_of}
+use Rattle.buck_book_journal.specs.Journal.{JournalParts, history_of}
 use Rattle.buck_page_figures.specs.Figures.{IsUnsteered, AreUnsteered, at_base_in, worth_in}
 use Rattle.buck_page_figures.specs.inner.Adding.{IsCuttable}
 use Rattle.buck_page_figures.proofs.LawfulLemmas.{passable}

@@ -16,7 +16,7 @@ use Rattle.buck_book_postings.specs.Counts.{AreClassCounts}
 use Rattle.buck_book_postings.specs.Walk.{WalkParts, walk_of, passed, IsCountable}
 use Rattle.buck_book_postings.proofs.Ends.{take_one_more, targets-append}
 use Rattle.buck_book_postings.proofs.Extend.{slice_get-push}
-use Rattle.buck_book_journal.specs.reading.Journal.{JournalParts}
+use Rattle.buck_book_journal.specs.Journal.{JournalParts}
 use Rattle.buck_page_figures.specs.Degrees.{AreDegreesBy}
 use Rattle.buck_page_figures.specs.Figures.{demands_in}
 use Rattle.buck_page_figures.specs.Journals.{StandsAt, entries_in, postings_of}

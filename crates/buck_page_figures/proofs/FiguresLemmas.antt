@@ -7,7 +7,7 @@ use Rattle.buck_book_postings.specs.declared.posting.Posting.{Posting}
 use Rattle.buck_book_postings.specs.Posting.{ends_of, targets_of}
 use Rattle.buck_book_postings.specs.History.{prices_at}
 use Rattle.buck_book_postings.specs.Walk.{WalkParts, passed}
-use Rattle.buck_book_journal.specs.reading.Journal.{JournalParts}
+use Rattle.buck_book_journal.specs.Journal.{JournalParts}
 use Rattle.buck_page_figures.specs.Journals.{entries_in, postings_of}
 use Rattle.buck_page_figures.specs.Shown.{AreFigures}
 use Rattle.buck_page_figures.specs.inner.Account.{IsAccount}

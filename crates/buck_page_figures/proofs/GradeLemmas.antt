@@ -14,7 +14,7 @@ use Rattle.buck_book_postings.specs.declared.posting.Posting.TheVariants.{Cut, D
 use Rattle.buck_book_postings.specs.declared.posting.TheConstants.{MOST_POSTINGS}
 use Rattle.buck_book_postings.specs.Entry.{EntryParts, DemandParts}
 use Rattle.buck_book_postings.specs.Posting.{harvester_of}
-use Rattle.buck_book_journal.specs.reading.Journal.{JournalParts}
+use Rattle.buck_book_journal.specs.Journal.{JournalParts}
 use Rattle.buck_page_figures.specs.Figures.{IsUnsteered, cuts_in, worth_in}
 use Rattle.buck_page_figures.specs.Owns.{own_of}
 use Rattle.buck_page_figures.specs.Grades.{IsWorthOf}

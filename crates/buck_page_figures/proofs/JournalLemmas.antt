@@ -8,7 +8,7 @@ use Rattle.buck_apt.specs.Instruction.{InstructionParts, IsInstruction, classes}
 use Rattle.buck_book_postings.specs.declared.posting.Posting.{Posting}
 use Rattle.buck_book_postings.specs.Posting.{opening_targets}
 use Rattle.buck_book_postings.proofs.Wanted.{opening_valid}
-use Rattle.buck_book_journal.specs.reading.Journal.{JournalParts}
+use Rattle.buck_book_journal.specs.Journal.{JournalParts}
 use Rattle.buck_page_figures.specs.Journals.{postings_of, entries_in, sheets_in}
 
 -- the instruction's targets: one for each class

@@ -12,8 +12,7 @@ use Rattle.buck_book_postings.specs.Posting.{ends_of, cuts_since_end, is_end}
 use Rattle.buck_book_postings.specs.History.{IsLawful, Follows, Holds, prices_at}
 use Rattle.buck_book_postings.specs.Walk.{IsCountable}
 use Rattle.buck_book_postings.proofs.Ends.{take_one_more, ends_with_end, ends_without, ends_take-le, true_false}
-use Rattle.buck_book_journal.specs.reading.Journal.{JournalParts}
-use Rattle.buck_book_journal.specs.judging.Replay.{history_of}
+use Rattle.buck_book_journal.specs.Journal.{JournalParts, history_of}
 use Rattle.buck_page_figures.specs.Journals.{postings_of}
 use Rattle.buck_page_figures.specs.Shown.{AreShowable, IsShowable}
 use Rattle.buck_page_figures.specs.inner.Adding.{IsCuttable}

@@ -15,8 +15,7 @@ use Rattle.buck_book_postings.specs.declared.posting.Posting.{Posting}
 use Rattle.buck_book_postings.specs.declared.posting.Posting.TheVariants.{Cut, Demand}
 use Rattle.buck_book_postings.specs.Counts.{assortment_logs_in}
 use Rattle.buck_book_postings.specs.History.{IsLawful}
-use Rattle.buck_book_journal.specs.reading.Journal.{JournalParts}
-use Rattle.buck_book_journal.specs.judging.Replay.{history_of}
+use Rattle.buck_book_journal.specs.Journal.{JournalParts, history_of}
 use Rattle.buck_page_figures.specs.Journals.{postings_of}
 use Rattle.buck_page_figures.specs.Assorted.{AreParts, sum_in_part, part_volume_in, part_logged_in, part_at_base_in}
 use Rattle.buck_page_figures.specs.Figures.{base_sheet, log_volume, logs_in, volume_in, logged_in, at_base_in, worth_in, IsUnsteered, AreUnsteered}

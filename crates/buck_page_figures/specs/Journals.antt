@@ -1,7 +1,7 @@
 -- Several journals of one instruction: each begins with its base prices and its targets, and what is cut goes on.
 use Rattle.std.specs.Prelude.{◌≡◌, ℕ, ◌+◌, ◌<◌, ◌≤◌, List, [], length, take, slice_get, Option, Some, None}
 use Rattle.buck_book_postings.specs.declared.posting.Posting.{Posting}
-use Rattle.buck_book_journal.specs.reading.Journal.{JournalParts}
+use Rattle.buck_book_journal.specs.Journal.{JournalParts}
 pub use Rattle.buck_book_journal.specs.Several.{postings_of}
 
 -- the postings of a journal, and its sheets; none if there is no journal

@@ -14,7 +14,7 @@ use Rattle.buck_book_postings.specs.declared.posting.Posting.{Posting}
 use Rattle.buck_page_figures.specs.declared.figures.Piece.{Piece}
 use Rattle.buck_page_figures.specs.declared.figures.Cut.{Cut}
 use Rattle.buck_page_figures.specs.declared.figures.Place.{Place}
-use Rattle.buck_book_journal.specs.reading.Journal.{JournalParts}
+use Rattle.buck_book_journal.specs.Journal.{JournalParts}
 use Rattle.buck_page_figures.specs.Journals.{StandsAt, entries_in, postings_of, sheets_in}
 
 -- a log of a stem, cut under some prices, one for each class, beside a sheet of base prices

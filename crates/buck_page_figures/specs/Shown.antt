@@ -8,7 +8,7 @@ use Rattle.buck_book_postings.specs.declared.posting.Posting.TheVariants.{Cut, D
 use Rattle.buck_book_postings.specs.Posting.{ends_of, targets_of}
 use Rattle.buck_book_postings.specs.Counts.{AreClassCounts}
 use Rattle.buck_book_postings.specs.History.{prices_at}
-use Rattle.buck_book_journal.specs.reading.Journal.{JournalParts}
+use Rattle.buck_book_journal.specs.Journal.{JournalParts}
 use Rattle.buck_page_figures.specs.Journals.{postings_of}
 use Rattle.buck_page_figures.specs.Figures.{base_sheet, AreUnsteered}
 use Rattle.buck_page_figures.specs.Sums.{AreSums}

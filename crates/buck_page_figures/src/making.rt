@@ -2,7 +2,7 @@
 ghost use Rattle.std.specs.Prelude.{◌≡◌, ◌+◌, ◌*◌, ◌<◌, ◌≤◌, All, IfOk, length, map, min};
 ghost use Rattle.buck_apt.specs.Instruction.{classes};
 ghost use Rattle.buck_book_postings.specs.History.{IsLawful, prices_at};
-ghost use Rattle.buck_book_journal.specs.judging.Replay.{history_of};
+ghost use Rattle.buck_book_journal.specs.Journal.{history_of};
 ghost use Rattle.buck_page_figures.specs.Figures.{base_sheet};
 ghost use Rattle.buck_page_figures.specs.Journals.{postings_of};
 ghost use Rattle.buck_page_figures.specs.Points.{point_after};

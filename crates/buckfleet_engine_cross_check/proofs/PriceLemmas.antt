@@ -14,8 +14,7 @@ use Rattle.buck_book_postings.specs.declared.posting.Posting.{Posting}
 use Rattle.buck_book_postings.specs.declared.posting.Posting.TheVariants.{Cut, Demand}
 use Rattle.buck_book_postings.proofs.Ends.{ends_take-le}
 use Rattle.buck_book_postings.proofs.Places.{ClassAt, class_at, place_lt}
-use Rattle.buck_book_journal.specs.reading.Journal.{JournalParts}
-use Rattle.buck_book_journal.specs.judging.Replay.{history_of, version_at, prices_then}
+use Rattle.buck_book_journal.specs.Journal.{JournalParts, history_of, version_at, prices_then}
 use Rattle.buckfleet_engine_files.specs.declared.check_fault.CheckFault.TheVariants.{Price}
 use Rattle.buckfleet_engine_files.specs.Ruled.{ArePricesAt, FollowsRule}
 use Rattle.buckfleet_engine_cross_check.specs.Ties.{IsOffRule, IsPriceFaultAt}

@@ -8,7 +8,7 @@ use Rattle.buck_stem.specs.Stem.{StemParts}
 use Rattle.buck_rule.specs.Named.{price_by}
 use Rattle.buck_book_postings.specs.declared.posting.Posting.{Posting}
 use Rattle.buck_book_postings.specs.History.{HistoryParts, standing_of}
-use Rattle.buck_book_journal.specs.judging.Replay.{Begins, version_at, prices_then}
+use Rattle.buck_book_journal.specs.Journal.{Begins, version_at, prices_then}
 use Rattle.buck_rule.specs.declared.named.NamedRule.{NamedRule}
 use Rattle.buckfleet_engine_files.specs.declared.check_fault.CheckFault.{CheckFault}
 use Rattle.buckfleet_engine_files.specs.declared.check_fault.CheckFault.TheVariants.{Other, Uncut, Surplus, Price}

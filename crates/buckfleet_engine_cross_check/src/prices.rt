@@ -4,7 +4,7 @@ ghost use Rattle.buck_apt.specs.Instruction.{classes};
 ghost use Rattle.buck_rule.specs.Stored.{Answers};
 ghost use Rattle.buck_rule.specs.GivenBy.{GivesBy};
 ghost use Rattle.buck_book_postings.specs.History.{IsLawful};
-ghost use Rattle.buck_book_journal.specs.judging.Replay.{history_of, prices_then};
+ghost use Rattle.buck_book_journal.specs.Journal.{history_of, prices_then};
 ghost use Rattle.buckfleet_engine_files.specs.Ruled.{ArePricesAt, FollowsRule};
 ghost use Rattle.buckfleet_engine_cross_check.specs.Ties.{IsPriceFault, IsPriceFaultAt};
 ghost use Rattle.buckfleet_engine_cross_check.specs.inner.Tie.{AreSameBelow, DifferFirstAt};

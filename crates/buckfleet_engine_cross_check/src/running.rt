@@ -2,7 +2,8 @@
 ghost use Rattle.std.specs.Prelude.{◌≡◌, ◌≢◌, ◌-◌, ◌<◌, ◌≤◌, length, map, drop, IfOk, IfErr, IfSome, IfNone, OnOk, Some};
 ghost use Rattle.buck_record.specs.Reading.{listed};
 ghost use Rattle.buck_book_postings.specs.History.{HistoryParts, IsLawful};
-ghost use Rattle.buck_book_journal.specs.judging.Replay.{history_of, IsFirstFault};
+ghost use Rattle.buck_book_journal.specs.Journal.{history_of};
+ghost use Rattle.buck_book_replay.specs.Replay.{IsFirstFault};
 ghost use Rattle.buckfleet_engine_files.specs.declared.fault.EngineFault.TheVariants.{Seats, Write};
 ghost use Rattle.buck_rule.specs.declared.named.NamedRule.{NamedRule};
 ghost use Rattle.buckfleet_engine_files.specs.Reading.{IfStopped, apt_with};

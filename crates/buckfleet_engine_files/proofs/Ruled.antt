@@ -12,7 +12,7 @@ use Rattle.buck_book_postings.specs.Posting.{is_end, ends_of, cuts_since_end}
 use Rattle.buck_book_postings.specs.History.{HistoryParts, IsLawful, IsEnd, standing_of}
 use Rattle.buck_book_postings.specs.Pricing.{Calls, AreAnswers, AreSheetsBy}
 use Rattle.buck_book_postings.proofs.Ends.{take_one_more, ends_with_end, cuts_without, true_false}
-use Rattle.buck_book_journal.specs.judging.Replay.{version_at}
+use Rattle.buck_book_journal.specs.Journal.{version_at}
 use Rattle.buck_rule.specs.declared.named.NamedRule.{NamedRule}
 use Rattle.buck_rule.specs.declared.named.NamedRule.TheVariants.{Steady, Linear, Step, Root}
 use Rattle.buck_rule.specs.Named.{price_by}

@@ -4,8 +4,9 @@ use Rattle.buck_record.specs.writing.Line.{line_of}
 use Rattle.buck_apt.specs.Instruction.{InstructionParts}
 use Rattle.buck_apt.specs.Apt.{apt_of}
 use Rattle.buck_book_postings.specs.History.{HistoryParts}
-use Rattle.buck_book_journal.specs.reading.Journal.{JournalParts, journal_of}
-use Rattle.buck_book_journal.specs.judging.Replay.{IsFirstFault}
+use Rattle.buck_book_journal.specs.Journal.{JournalParts}
+use Rattle.buck_book_text.specs.reading.Journal.{journal_of}
+use Rattle.buck_book_replay.specs.Replay.{IsFirstFault}
 use Rattle.buckfleet_engine_files.specs.declared.fault.EngineFault.{EngineFault}
 use Rattle.buckfleet_engine_files.specs.declared.fault.EngineFault.TheVariants.{Journal, Replay, Memory}
 use Rattle.buckfleet_engine_files.specs.Reading.{IsAccepted, IsAptFault, IsFileFault}

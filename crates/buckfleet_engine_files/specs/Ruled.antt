@@ -5,7 +5,7 @@ use Rattle.buck_apt.specs.Instruction.{InstructionParts, IsClass, index_of}
 use Rattle.buck_rule.specs.Named.{price_by}
 use Rattle.buck_book_postings.specs.declared.posting.Posting.{Posting}
 use Rattle.buck_book_postings.specs.History.{HistoryParts, standing_of}
-use Rattle.buck_book_journal.specs.judging.Replay.{Begins, prices_then}
+use Rattle.buck_book_journal.specs.Journal.{Begins, prices_then}
 use Rattle.buck_rule.specs.declared.named.NamedRule.{NamedRule}
 
 -- the price of a class is what a rule gives after some postings

@@ -4,10 +4,11 @@ use Rattle.buck_apt.specs.Instruction.{InstructionParts}
 use Rattle.buck_apt.specs.Apt.{apt_of}
 use Rattle.buck_book_postings.specs.History.{IsLawful}
 use Rattle.buck_book_postings.specs.declared.posting.TheConstants.{MOST_POSTINGS}
-use Rattle.buck_book_journal.specs.reading.Journal.{JournalParts, journal_of}
-use Rattle.buck_book_journal.specs.judging.Replay.{history_of, IsFirstFault}
-use Rattle.buck_book_journal.specs.declared.reading.fault.JournalFault.{JournalFault}
-use Rattle.buck_book_journal.specs.declared.judging.fault.ReplayFault.{ReplayFault}
+use Rattle.buck_book_journal.specs.Journal.{JournalParts, history_of}
+use Rattle.buck_book_text.specs.reading.Journal.{journal_of}
+use Rattle.buck_book_replay.specs.Replay.{IsFirstFault}
+use Rattle.buck_book_journal.specs.declared.journal_fault.JournalFault.{JournalFault}
+use Rattle.buck_book_journal.specs.declared.replay_fault.ReplayFault.{ReplayFault}
 use Rattle.buck_book_journal.specs.Several.{postings_of}
 use Rattle.buckfleet_engine_files.specs.declared.fault.EngineFault.{EngineFault}
 use Rattle.buckfleet_engine_files.specs.declared.fault.EngineFault.TheVariants.{Journal, JournalOf, Replay, ReplayOf, Full}

@@ -4,9 +4,10 @@ use Rattle.std.specs.Io.KnownBytes.{Appends, Keeps}
 use Rattle.std.specs.Str.{IsUtf8}
 use Rattle.buck_apt.specs.Instruction.{InstructionParts}
 use Rattle.buck_book_postings.specs.History.{HistoryParts, IsLawful}
-use Rattle.buck_book_journal.specs.reading.Journal.{JournalParts, journal_of}
-use Rattle.buck_book_journal.specs.judging.Replay.{history_of, IsFirstFault}
-use Rattle.buck_book_journal.specs.declared.judging.fault.ReplayFault.{ReplayFault}
+use Rattle.buck_book_journal.specs.Journal.{JournalParts, history_of}
+use Rattle.buck_book_text.specs.reading.Journal.{journal_of}
+use Rattle.buck_book_replay.specs.Replay.{IsFirstFault}
+use Rattle.buck_book_journal.specs.declared.replay_fault.ReplayFault.{ReplayFault}
 use Rattle.buckfleet_engine_files.specs.declared.fault.EngineFault.{EngineFault}
 use Rattle.buckfleet_engine_files.specs.declared.fault.EngineFault.TheVariants.{Write, Replay}
 use Rattle.buckfleet_engine_files.specs.Reading.{ReadsApt, Says}

@@ -6,7 +6,7 @@ use Rattle.std.proofs.lemmas.Option.{same_Some, slice_get_read}
 use Rattle.buck_apt.specs.Settings.{SettingsParts, own_numbers}
 use Rattle.buck_apt.specs.Instruction.{InstructionParts}
 use Rattle.buck_book_postings.specs.declared.posting.TheConstants.{MOST_POSTINGS}
-use Rattle.buck_book_journal.specs.reading.Journal.{JournalParts}
+use Rattle.buck_book_journal.specs.Journal.{JournalParts}
 use Rattle.buck_page_figures.specs.Journals.{postings_of}
 use Rattle.buckfleet_engine_files.specs.Reading.{Says, apt_with}
 use Rattle.buckfleet_engine_files.specs.Several.{HaveJournals}

@@ -13,8 +13,7 @@ use Rattle.buck_book_postings.specs.declared.posting.Posting.{Posting}
 use Rattle.buck_book_postings.specs.declared.posting.Posting.TheVariants.{Cut, Demand}
 use Rattle.buck_book_postings.specs.Entry.{DemandParts, EntryParts}
 use Rattle.buck_book_postings.specs.History.{Holds, IsLawful}
-use Rattle.buck_book_journal.specs.reading.Journal.{JournalParts}
-use Rattle.buck_book_journal.specs.judging.Replay.{history_of}
+use Rattle.buck_book_journal.specs.Journal.{JournalParts, history_of}
 use Rattle.buck_page_figures.specs.Figures.{at_base_in, base_sheet, cuts_in, logs_in, volume_in}
 use Rattle.buck_page_figures.specs.Assorted.{part_at_base_in}
 use Rattle.buckfleet_terms_files.specs.Own.{HasShapeOf}

@@ -8,7 +8,7 @@ ghost use Rattle.buck_book_postings.specs.declared.posting.Posting.{Posting};
 ghost use Rattle.buck_book_postings.specs.declared.posting.Posting.TheVariants.{Cut};
 ghost use Rattle.buck_book_postings.specs.declared.posting.TheConstants.{MOST_POSTINGS};
 ghost use Rattle.buck_book_postings.specs.History.{IsLawful};
-ghost use Rattle.buck_book_journal.specs.judging.Replay.{history_of};
+ghost use Rattle.buck_book_journal.specs.Journal.{history_of};
 ghost use Rattle.buck_page_figures.specs.Figures.{base_sheet};
 ghost use Rattle.buck_page_figures.specs.Journals.{postings_of};
 ghost use Rattle.buckfleet_terms_files.specs.Own.{HasShapeOf};

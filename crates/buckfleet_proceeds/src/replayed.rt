@@ -1,7 +1,7 @@
 //! Journals that are replayed before anything is said of them.
 ghost use Rattle.std.specs.Prelude.{◌≡◌, ◌⊎◌, ◌≢◌, ◌+◌, ◌<◌, ◌≤◌, ℕ, OnOk, IfErr, length};
 ghost use Rattle.buck_book_postings.specs.declared.posting.TheConstants.{MOST_POSTINGS};
-ghost use Rattle.buck_book_journal.specs.declared.judging.fault.ReplayFault.{ReplayFault};
+ghost use Rattle.buck_book_journal.specs.declared.replay_fault.ReplayFault.{ReplayFault};
 ghost use Rattle.buck_page_figures.specs.Journals.{postings_of};
 ghost use Rattle.buckfleet_engine_files.specs.declared.fault.EngineFault.TheVariants.{Memory};
 ghost use Rattle.buckfleet_engine_files.specs.Several.{AreLawful, IsFirstUnlawful, replay_fault};

@@ -17,8 +17,7 @@ use Rattle.buck_page_cells.specs.declared.spread.Spread.{Spread}
 use Rattle.buck_page_cells.specs.Cells.{spread_cells}
 use Rattle.buck_page_cells.specs.Spread.{IsSpread}
 use Rattle.buck_page_figures.specs.Journals.{postings_of}
-use Rattle.buck_book_journal.specs.reading.Journal.{JournalParts}
-use Rattle.buck_book_journal.specs.judging.Replay.{history_of}
+use Rattle.buck_book_journal.specs.Journal.{JournalParts, history_of}
 use Rattle.buckfleet_trial_sweep.specs.declared.combination.Combination.{Combination}
 use Rattle.buckfleet_trial_sweep.specs.Runs.{IsRunLine}
 use Rattle.buckfleet_trial_sweep.specs.Sweep.{AreLines}

@@ -5,7 +5,7 @@ ghost use Rattle.std.specs.Option.{option_map};
 ghost use Rattle.buck_book_postings.specs.declared.posting.TheConstants.{MOST_POSTINGS};
 ghost use Rattle.buck_book_postings.specs.History.{IsLawful};
 ghost use Rattle.buckfleet_engine_files.specs.Written.{WritesText};
-ghost use Rattle.buck_book_journal.specs.judging.Replay.{history_of};
+ghost use Rattle.buck_book_journal.specs.Journal.{history_of};
 ghost use Rattle.buckfleet_trial_sweep.specs.Runs.{IsStop};
 ghost use Rattle.buckfleet_terms_files.specs.Own.{HasShapeOf};
 ghost use Rattle.buckfleet_terms_files.specs.Telling.{WritesTerms};

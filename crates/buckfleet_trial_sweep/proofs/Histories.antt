@@ -1,6 +1,6 @@
 -- What the line of a run says of its history.
 use Rattle.buckfleet_trial_sweep.proofs.Words.{◌≡◌, ℕ, List, [], ◌∷◌, Option, sym, ap, ◌∙◌, same_Some, InstructionParts, targets_of, history_of, Degrees, Assorted, IsLeast, IsLine, wholes_of, AreAllDegrees, line_by, versions_of}
-use Rattle.buck_book_journal.specs.reading.Journal.{JournalParts}
+use Rattle.buck_book_journal.specs.Journal.{JournalParts}
 use Rattle.buck_page_figures.specs.declared.figures.Figures.{Figures}
 use Rattle.buck_page_figures.specs.Shown.{AreFigures}
 use Rattle.buck_rule.specs.declared.named.NamedRule.{NamedRule}

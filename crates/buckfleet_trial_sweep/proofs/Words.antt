@@ -4,7 +4,7 @@ pub use Rattle.std.proofs.Common.{append_assoc, append-nil, zero-mul, rules, len
 pub use Rattle.std.proofs.lemmas.Option.{same_Some, IfSome_then}
 pub use Rattle.buck_apt.specs.Instruction.{InstructionParts}
 pub use Rattle.buck_book_postings.specs.Posting.{targets_of}
-pub use Rattle.buck_book_journal.specs.judging.Replay.{history_of}
+pub use Rattle.buck_book_journal.specs.Journal.{history_of}
 pub use Rattle.buck_page_figures.specs.declared.degrees.Degrees.{Degrees}
 pub use Rattle.buckfleet_trial_sweep.specs.Table.{Assorted, IsLeast, IsLine, wholes_of, apart_of, cells, volumes_of, degree_heads, pair_heads}
 pub use Rattle.buckfleet_trial_sweep.specs.inner.Lines.{AreAllDegrees, line_by, versions_of, lesser, AnswersTable, IsPart}

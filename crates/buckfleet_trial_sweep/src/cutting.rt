@@ -1,7 +1,7 @@
 //! The run of a combination: its journal, and its line.
 ghost use Rattle.std.specs.Prelude.{◌≡◌, ◌<◌, ◌≤◌, IfOk, IfErr, length, map};
 ghost use Rattle.buck_book_postings.specs.History.{IsLawful};
-ghost use Rattle.buck_book_journal.specs.judging.Replay.{history_of};
+ghost use Rattle.buck_book_journal.specs.Journal.{history_of};
 ghost use Rattle.buckfleet_engine_input.specs.Harvest.{AreFirsts};
 ghost use Rattle.buckfleet_trial_sweep.specs.Runs.{HasCut, IsRunLine, IsStop};
 ghost use Rattle.buckfleet_trial_sweep.specs.inner.Lines.{IsPart};

@@ -2,7 +2,7 @@
 ghost use Rattle.std.specs.Prelude.{◌≡◌, ◌++◌, ◌≤◌, IfOk, OnOk, length};
 ghost use Rattle.buck_apt.specs.Instruction.{classes};
 ghost use Rattle.buck_book_postings.specs.History.{IsLawful};
-ghost use Rattle.buck_book_journal.specs.judging.Replay.{history_of};
+ghost use Rattle.buck_book_journal.specs.Journal.{history_of};
 ghost use Rattle.buckfleet_trial_sweep.specs.Table.{IsLeast, IsLine, apart_of, cells, rate_of, volumes_of, wholes_of};
 ghost use Rattle.buckfleet_trial_sweep.specs.inner.Lines.{AreAllDegrees, lesser, line_by, versions_of};
 ghost use Rattle.buck_book_postings.specs.declared.posting.TheConstants.{MOST_POSTINGS};

@@ -6,8 +6,10 @@ ghost use Rattle.buck_rule.specs.Stored.{Answers};
 
 use crate::callers::{cut, demand, plan_for};
 use crate::fixtures::*;
-use buck_book_journal::{ReplayFault, read_journal, replay};
+use buck_book_journal::ReplayFault;
 use buck_book_postings::{Book, Plan, Posting};
+use buck_book_replay::replay;
+use buck_book_text::read_journal;
 use buck_rule::{Rule, Standing, step};
 use buck_stem::Stem;
 use fixture_samples::{SHORT_JOURNAL, edited, saw_instruction, two_stem_journal};

@@ -7,9 +7,9 @@ use Rattle.buck_book_postings.specs.declared.posting.Posting.{Posting}
 use Rattle.buck_book_postings.specs.declared.posting.Posting.TheVariants.{Cut, Demand}
 use Rattle.buck_book_postings.specs.Entry.{EntryParts}
 use Rattle.buck_book_postings.specs.History.{HistoryParts, sheet_at}
-use Rattle.buck_book_journal.specs.declared.judging.fault.ReplayFault.{ReplayFault}
-use Rattle.buck_book_journal.specs.declared.judging.fault.ReplayFault.TheVariants.{Numbering, Outvalued}
-use Rattle.buck_book_journal.specs.judging.Replay.{IsFaultAt, IsFirstFault, IsMet, IsNumbered}
+use Rattle.buck_book_journal.specs.declared.replay_fault.ReplayFault.{ReplayFault}
+use Rattle.buck_book_journal.specs.declared.replay_fault.ReplayFault.TheVariants.{Numbering, Outvalued}
+use Rattle.buck_book_replay.specs.Replay.{IsFaultAt, IsFirstFault, IsMet, IsNumbered}
 
 -- a fault says its own place
 place_of : (h : HistoryParts) (k at : ℕ) (x : Posting) → IsFaultAt h k x (Outvalued at) → at ≡ k

@@ -2,7 +2,7 @@
 use Rattle.std.proofs.Common.{◌≡◌, [], ◌∷◌, refl, codes}
 use Rattle.std.specs.Fmt.{digits}
 use Rattle.buck_book_postings.specs.declared.posting.Posting.TheVariants.{Cut, Demand}
-use Rattle.buck_book_journal.specs.Written.{journal_text, cut_text, demand_text}
+use Rattle.buck_book_text.specs.Written.{journal_text, cut_text, demand_text}
 use Rattle.wrong_book.specs.Texts.{zoned_cut, second_demand}
 
 pub text_of_a_cut : journal_text [] (Cut zoned_cut ∷ [])

@@ -2,11 +2,12 @@
 ghost use Rattle.std.specs.Prelude.{◌≡◌, ◌-◌, ◌<◌, ◌≤◌, length, slice_get, Some, take};
 ghost use Rattle.buck_dp.specs.Best.{IsAdmissible, cutting_worth};
 ghost use Rattle.buck_book_postings.specs.History.{sheet_at};
-ghost use Rattle.buck_book_journal.specs.judging.Replay.{IsNumbered};
+ghost use Rattle.buck_book_replay.specs.Replay.{IsNumbered};
 
 use buck_apt::Instruction;
-use buck_book_journal::{Journal, ReplayFault, replay_in_parts};
+use buck_book_journal::{Journal, ReplayFault};
 use buck_book_postings::{Entry, Posting};
+use buck_book_replay::replay_in_parts;
 use buck_dp::Cutting;
 use std::alloc::Global;
 use std::sync::Arc;

@@ -5,13 +5,14 @@ ghost use Rattle.buck_dp.specs.Best.{IsAdmissible, cutting_worth};
 ghost use Rattle.buck_book_postings.specs.Posting.{ends_of};
 ghost use Rattle.buck_book_postings.specs.Targets.{AreTargets};
 ghost use Rattle.buck_book_postings.specs.History.{IsLawful, PricesMeet, prices_at, sheet_at};
-ghost use Rattle.buck_book_journal.specs.judging.Replay.{history_of};
+ghost use Rattle.buck_book_journal.specs.Journal.{history_of};
 ghost use Rattle.buck_book_postings.specs.declared.posting.TheConstants.{MOST_POSTINGS};
 
 use buck_apt::Instruction;
-use buck_book_journal::laws::faults_are_unlawful;
-use buck_book_journal::{Journal, ReplayFault, replay, replay_in_order};
+use buck_book_journal::{Journal, ReplayFault};
 use buck_book_postings::{Demand, Entry, Posting};
+use buck_book_replay::laws::faults_are_unlawful;
+use buck_book_replay::{replay, replay_in_order};
 use buck_dp::Cutting;
 use std::alloc::Global;
 use std::sync::Arc;

@@ -2,8 +2,8 @@
 ghost use Rattle.std.specs.Prelude.{◌≡◌, ◌∷◌, [], map};
 ghost use Rattle.wrong_book.specs.Texts.{zoned_cut, second_demand};
 
-use buck_book_journal::journal_text;
 use buck_book_postings::{Memory, Posting};
+use buck_book_text::journal_text;
 use buck_value::Sheet;
 use std::alloc::Global;
 use std::sync::Arc;

@@ -2,8 +2,8 @@
 use Rattle.std.proofs.Common.{◌≡◌, ℕ, ◌+◌, List, [], ◌∷◌, length, map, slice_index_or, Option, Some, Result, Ok, Err, refl, sym, ap, subst, ◌∙◌, arith}
 use Rattle.buck_apt.specs.Instruction.{InstructionParts}
 use Rattle.buck_book_postings.specs.History.{IsLawful}
-use Rattle.buck_book_journal.specs.reading.Journal.{JournalParts, journal_of}
-use Rattle.buck_book_journal.specs.judging.Replay.{history_of}
+use Rattle.buck_book_journal.specs.Journal.{JournalParts, history_of}
+use Rattle.buck_book_text.specs.reading.Journal.{journal_of}
 use Rattle.buckfleet_engine_files.specs.declared.fault.EngineFault.{EngineFault}
 use Rattle.buckfleet_engine_page.specs.declared.asked.Shown.{Shown}
 use Rattle.buckfleet_engine_page.specs.declared.asked.Shown.TheVariants.{Page}

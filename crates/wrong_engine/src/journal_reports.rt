@@ -3,8 +3,8 @@ ghost use Rattle.std.specs.Prelude.{◌≡◌, ◌≢◌, List, ℕ, Ok};
 ghost use Rattle.buck_apt.specs.Instruction.{InstructionParts};
 ghost use Rattle.buck_apt.specs.Apt.{apt_of};
 ghost use Rattle.buck_book_postings.specs.History.{IsLawful};
-ghost use Rattle.buck_book_journal.specs.reading.Journal.{JournalParts, journal_of};
-ghost use Rattle.buck_book_journal.specs.judging.Replay.{history_of};
+ghost use Rattle.buck_book_journal.specs.Journal.{JournalParts, history_of};
+ghost use Rattle.buck_book_text.specs.reading.Journal.{journal_of};
 ghost use Rattle.buckfleet_engine_text.specs.Report.{ending_of, report_of};
 
 use crate::opened::Missing;

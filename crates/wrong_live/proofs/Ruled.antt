@@ -9,7 +9,7 @@ use Rattle.buck_book_postings.specs.Pricing.{Calls}
 use Rattle.buck_book_postings.specs.Book.{BookParts}
 use Rattle.buck_book_postings.specs.Pricing.{AreSheetsBy}
 use Rattle.buck_book_postings.proofs.Given.{none_given}
-use Rattle.buck_book_journal.specs.Written.{journal_text}
+use Rattle.buck_book_text.specs.Written.{journal_text}
 use Rattle.buckfleet_engine_files.specs.declared.fault.EngineFault.{EngineFault}
 use Rattle.buckfleet_engine_files.specs.Faults.{status_of}
 use Rattle.buckfleet_engine.specs.run.Serving.{status_after}

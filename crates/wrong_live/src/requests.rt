@@ -7,7 +7,7 @@ ghost use Rattle.buck_rule.specs.Stored.{Answers};
 ghost use Rattle.buck_rule.specs.declared.named.NamedRule.TheVariants.{Step};
 ghost use Rattle.buck_book_postings.specs.History.{HistoryParts};
 ghost use Rattle.buck_book_postings.specs.Pricing.{AreSheetsBy};
-ghost use Rattle.buck_book_journal.specs.Written.{journal_text};
+ghost use Rattle.buck_book_text.specs.Written.{journal_text};
 ghost use Rattle.buckfleet_engine_files.specs.Ruled.{FollowsRule};
 ghost use Rattle.buck_book_cutter.specs.Cut.{opening};
 ghost use Rattle.buckfleet_live.specs.Live.{IsLiveRun};

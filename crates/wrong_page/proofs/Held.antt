@@ -10,7 +10,7 @@ use Rattle.buck_value.specs.declared.log.Log.{Log}
 use Rattle.buck_book_postings.specs.declared.posting.Posting.{Posting}
 use Rattle.buck_book_postings.specs.declared.posting.Posting.TheVariants.{Cut, Demand}
 use Rattle.buck_book_postings.specs.Entry.{EntryParts}
-use Rattle.buck_book_journal.specs.reading.Journal.{JournalParts}
+use Rattle.buck_book_journal.specs.Journal.{JournalParts}
 use Rattle.buck_page_figures.specs.Figures.{AreUnsteered, IsUnsteered, base_sheet, cuts_in, worth_in}
 use Rattle.buck_page_figures.specs.Grades.{AreBestWorths, IsWorthOf}
 use Rattle.buck_page_figures.specs.Journals.{postings_of}

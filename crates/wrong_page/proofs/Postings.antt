@@ -19,7 +19,7 @@ use Rattle.buck_book_postings.specs.Posting.{ends_of}
 use Rattle.buck_book_postings.proofs.Alone.{class_at}
 use Rattle.buck_book_postings.proofs.Ends.{true_false}
 use Rattle.buck_dp.specs.Best.{cutting_worth}
-use Rattle.buck_book_journal.specs.reading.Journal.{JournalParts}
+use Rattle.buck_book_journal.specs.Journal.{JournalParts}
 use Rattle.buck_page_figures.specs.Figures.{base_sheet, as_posting, AreUnsteered, IsUnsteered, at_base_in, worth_in}
 use Rattle.buck_page_figures.specs.Degrees.{AreDegreesBy}
 use Rattle.buck_page_figures.specs.Journals.{entries_in, postings_of}

@@ -13,7 +13,7 @@ use Rattle.buck_book_postings.specs.declared.posting.Posting.TheVariants.{Cut, D
 use Rattle.buck_book_postings.specs.Counts.{class_logs}
 use Rattle.buck_book_postings.specs.History.{prices_at}
 use Rattle.buck_book_postings.specs.Entry.{EntryParts, DemandParts}
-use Rattle.buck_book_journal.specs.reading.Journal.{JournalParts}
+use Rattle.buck_book_journal.specs.Journal.{JournalParts}
 use Rattle.buck_page_figures.specs.Figures.{base_sheet}
 
 -- another cutting of a cut's stem is worth more at base prices

@@ -4,7 +4,7 @@ ghost use Rattle.buck_apt.specs.Instruction.{IsClass};
 ghost use Rattle.buck_dp.specs.Best.{cutting_worth};
 ghost use Rattle.buck_book_postings.specs.Counts.{assortment_logs};
 ghost use Rattle.buck_book_postings.specs.History.{IsLawful, prices_at};
-ghost use Rattle.buck_book_journal.specs.judging.Replay.{history_of};
+ghost use Rattle.buck_book_journal.specs.Journal.{history_of};
 ghost use Rattle.buck_page_figures.specs.Figures.{base_sheet};
 ghost use Rattle.wrong_page.specs.Cuts.{AreAsLong, AreOfTwoHarvesters, IsAfterDemand, IsOneCutInto, IsOutvalued};
 

@@ -2,7 +2,7 @@
 ghost use Rattle.std.specs.Prelude.{◌≡◌, Some, [], ◌∷◌, length, slice_get};
 ghost use Rattle.buck_apt.specs.Instruction.{AssortmentParts};
 ghost use Rattle.buck_book_postings.specs.History.{IsLawful};
-ghost use Rattle.buck_book_journal.specs.judging.Replay.{history_of};
+ghost use Rattle.buck_book_journal.specs.Journal.{history_of};
 ghost use Rattle.buck_page_figures.specs.Figures.{base_sheet};
 ghost use Rattle.wrong_page.specs.Cuts.{IsHeldByGrades};
 

@@ -5,7 +5,7 @@ ghost use Rattle.buck_book_postings.specs.Counts.{assortment_logs_in};
 ghost use Rattle.buck_book_postings.specs.History.{IsLawful};
 ghost use Rattle.buck_book_postings.specs.declared.posting.Posting.{Posting};
 ghost use Rattle.buck_book_postings.specs.declared.posting.TheConstants.{MOST_POSTINGS};
-ghost use Rattle.buck_book_journal.specs.judging.Replay.{history_of};
+ghost use Rattle.buck_book_journal.specs.Journal.{history_of};
 ghost use Rattle.buck_page_figures.specs.Figures.{AreUnsteered, at_base_in, cuts_in, logs_in, volume_in};
 ghost use Rattle.buck_page_figures.specs.Journals.{postings_of};
 ghost use Rattle.buck_page_figures.specs.Owns.{own_of};

@@ -4,7 +4,7 @@ use Rattle.buck_apt.specs.Instruction.{InstructionParts, classes}
 use Rattle.buck_book_postings.specs.declared.posting.Posting.{Posting}
 use Rattle.buck_book_postings.specs.Posting.{targets_of}
 use Rattle.buck_book_postings.specs.Walk.{walk_of, IsCountable}
-use Rattle.buck_book_journal.specs.reading.Journal.{JournalParts}
+use Rattle.buck_book_journal.specs.Journal.{JournalParts}
 use Rattle.buck_page_figures.specs.Journals.{StandsAt, entries_in, postings_of}
 use Rattle.buck_page_figures.specs.inner.Adding.{IsCuttable}
 use Rattle.buck_page_figures.specs.inner.Account.{IsAccount}

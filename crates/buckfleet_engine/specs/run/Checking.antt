@@ -3,8 +3,8 @@ use Rattle.std.specs.Prelude.{◌⊎◌, ℕ, List, Option, Result, Ok, Err}
 use Rattle.buck_apt.specs.Instruction.{InstructionParts}
 use Rattle.buck_apt.specs.Apt.{apt_of}
 use Rattle.buck_book_postings.specs.History.{IsLawful}
-use Rattle.buck_book_journal.specs.reading.Journal.{JournalParts, journal_of}
-use Rattle.buck_book_journal.specs.judging.Replay.{history_of}
+use Rattle.buck_book_journal.specs.Journal.{JournalParts, history_of}
+use Rattle.buck_book_text.specs.reading.Journal.{journal_of}
 use Rattle.buckfleet_engine_files.specs.declared.fault.EngineFault.{EngineFault}
 use Rattle.buckfleet_engine_files.specs.Reading.{IsAccepted, IsAptFault, ReadsApt, Says}
 use Rattle.buckfleet_engine_text.specs.Report.{IsReport}

@@ -2,7 +2,8 @@
 ghost use Rattle.std.specs.Prelude.{◌≡◌, ◌≢◌, OnOk, IfOk, IfErr};
 ghost use Rattle.buck_record.specs.Reading.{listed};
 ghost use Rattle.buck_book_postings.specs.History.{IsLawful};
-ghost use Rattle.buck_book_journal.specs.judging.Replay.{history_of, IsFirstFault};
+ghost use Rattle.buck_book_journal.specs.Journal.{history_of};
+ghost use Rattle.buck_book_replay.specs.Replay.{IsFirstFault};
 ghost use Rattle.buckfleet_engine_files.specs.declared.fault.EngineFault.TheVariants.{Write};
 ghost use Rattle.buckfleet_engine.specs.run.Checking.{AnswersCheck, AnswersReplay};
 ghost use Rattle.buckfleet_engine_files.specs.Checking.{IsLawfulLine};

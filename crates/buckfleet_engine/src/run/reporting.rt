@@ -4,7 +4,7 @@ ghost use Rattle.buck_record.specs.Reading.{listed};
 ghost use Rattle.buck_book_postings.specs.Walk.{walk_of};
 ghost use Rattle.buck_book_postings.specs.History.{IsLawful, in_force};
 ghost use Rattle.buck_apt.specs.Instruction.{classes};
-ghost use Rattle.buck_book_journal.specs.judging.Replay.{history_of};
+ghost use Rattle.buck_book_journal.specs.Journal.{history_of};
 ghost use Rattle.buckfleet_engine_files.specs.declared.fault.EngineFault.TheVariants.{Write};
 ghost use Rattle.buckfleet_engine.specs.run.Checking.{AnswersJournal, AnswersReplay, AnswersReport, IsJournalReport};
 ghost use Rattle.buckfleet_engine_files.specs.Reading.{IfStopped, apt_with};
@@ -12,8 +12,9 @@ ghost use Rattle.buckfleet_engine_files.specs.Written.{WritesText};
 ghost use Rattle.buck_book_postings.specs.declared.posting.TheConstants.{MOST_POSTINGS};
 
 use buck_apt::{Instruction, Settings};
-use buck_book_journal::{Journal, ReplayFault, replay_to_end};
+use buck_book_journal::{Journal, ReplayFault};
 use buck_book_postings::Walk;
+use buck_book_replay::replay_to_end;
 use buck_stem::Stem;
 use buckfleet_engine_files::{
     EngineFault, Nobody, OneThread, Onlooker, read_instruction_with, read_postings, write_text,

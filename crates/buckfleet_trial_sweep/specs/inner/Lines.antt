@@ -5,7 +5,7 @@ use Rattle.std.specs.declared.alloc.Global.{Global}
 use Rattle.buck_apt.specs.Instruction.{InstructionParts}
 use Rattle.buck_page_figures.specs.Degrees.{AreDegreesBy}
 use Rattle.buck_page_figures.specs.declared.degrees.Degrees.{Degrees}
-use Rattle.buck_book_journal.specs.reading.Journal.{JournalParts}
+use Rattle.buck_book_journal.specs.Journal.{JournalParts}
 use Rattle.buck_fleet_round_robin.specs.Turn.{StemList}
 use Rattle.buckfleet_trial_sweep.specs.declared.combination.Combination.{Combination}
 use Rattle.buck_page_figures.specs.declared.figures.Figures.{Figures}

@@ -2,7 +2,7 @@ use Rattle.std.proofs.Common.{◌≡◌, ◌+◌, ◌∙◌, ap, arith, length, 
 use Rattle.std.specs.Prelude.{sum_by}
 use Rattle.std.proofs.lemmas.List.{take_all}
 use Rattle.std.proofs.lemmas.List.Sums.{sum_by-take-le, sum_by_more}
-use Rattle.buck_book_journal.specs.reading.Journal.{JournalParts}
+use Rattle.buck_book_journal.specs.Journal.{JournalParts}
 use Rattle.buck_page_figures.proofs.JournalLemmas.{number_is}
 use Rattle.buck_page_figures.proofs.making.number_of.Goals as goal
 

@@ -2,7 +2,7 @@ use Rattle.std.proofs.Common.{◌≡◌, ◌<◌, ◌≤◌, ◌-◌, ℕ, lengt
 use Rattle.buck_rule.specs.GivenBy.{GivesBy}
 use Rattle.buck_rule.specs.declared.named.NamedRule.{NamedRule}
 use Rattle.buck_book_postings.specs.Walk.{walk_of}
-use Rattle.buck_book_journal.specs.judging.Replay.{history_of}
+use Rattle.buck_book_journal.specs.Journal.{history_of}
 use Rattle.buckfleet_engine_files.specs.Ruled.{ArePricesAt}
 use Rattle.buckfleet_engine_cross_check.proofs.prices.first_fault.Given as goal
 

@@ -1,8 +1,7 @@
 use Rattle.std.proofs.Common.{◌≡◌, ◌<◌, List, [], ℕ, length, map, take, get_or, sym, ap, ◌∙◌, arith}
 use Rattle.std.proofs.lemmas.List.{get_or-map, length-map}
 use Rattle.buck_book_postings.specs.Posting.{ends_of}
-use Rattle.buck_book_journal.specs.reading.Journal.{JournalParts}
-use Rattle.buck_book_journal.specs.judging.Replay.{history_of, version_at}
+use Rattle.buck_book_journal.specs.Journal.{JournalParts, history_of, version_at}
 use Rattle.buckfleet_engine_files.proofs.LastSheet.{number_after}
 use Rattle.buckfleet_engine_cross_check.proofs.PriceLemmas.{version_in}
 use Rattle.buckfleet_engine_cross_check.proofs.prices.prices_at.Goals as goal

@@ -1,5 +1,5 @@
 use Rattle.std.proofs.Common.{length, ap, arith}
-use Rattle.buck_book_journal.specs.reading.Journal.{JournalParts}
+use Rattle.buck_book_journal.specs.Journal.{JournalParts}
 use Rattle.buckfleet_engine_files.proofs.SeveralLemmas.{postings_more}
 use Rattle.buckfleet_engine_files.proofs.several.are_few.Goals as goal
 

@@ -2,7 +2,7 @@ use Rattle.std.proofs.Common.{◌<◌, length, refl, subst, take_all, arith}
 use Rattle.std.proofs.lemmas.Option.{slice_get_read}
 use Rattle.std.proofs.lemmas.List.Elements.{All-more}
 use Rattle.buck_book_postings.specs.History.{IsLawful}
-use Rattle.buck_book_journal.specs.judging.Replay.{history_of}
+use Rattle.buck_book_journal.specs.Journal.{history_of}
 use Rattle.buckfleet_engine_files.specs.Several.{AreLawful}
 use Rattle.buckfleet_engine_files.proofs.SeveralLemmas.{few_of_all}
 use Rattle.buckfleet_engine_files.proofs.several.replay_several.Goals as goal

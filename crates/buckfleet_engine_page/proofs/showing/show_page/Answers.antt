@@ -1,5 +1,5 @@
 use Rattle.std.proofs.Common.{◌≢◌, IfErr, Result, subst}
-use Rattle.buck_book_journal.specs.declared.judging.fault.ReplayFault.TheVariants.{Memory}
+use Rattle.buck_book_journal.specs.declared.replay_fault.ReplayFault.TheVariants.{Memory}
 use Rattle.buckfleet_engine_files.specs.declared.several.Unlawful.{Unlawful}
 use Rattle.buckfleet_engine_files.specs.Several.{IsFirstUnlawful}
 use Rattle.buckfleet_engine_page.specs.Viewing.{AppendsPage}

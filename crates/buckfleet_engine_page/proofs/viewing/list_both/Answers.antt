@@ -1,7 +1,8 @@
 use Rattle.std.proofs.Common.{◌≢◌, IfErr, Result, subst}
-use Rattle.buck_book_journal.specs.declared.judging.fault.ReplayFault.{ReplayFault}
-use Rattle.buck_book_journal.specs.declared.judging.fault.ReplayFault.TheVariants.{Memory}
-use Rattle.buck_book_journal.specs.judging.Replay.{IsFirstFault, history_of}
+use Rattle.buck_book_journal.specs.declared.replay_fault.ReplayFault.{ReplayFault}
+use Rattle.buck_book_journal.specs.declared.replay_fault.ReplayFault.TheVariants.{Memory}
+use Rattle.buck_book_replay.specs.Replay.{IsFirstFault}
+use Rattle.buck_book_journal.specs.Journal.{history_of}
 use Rattle.buckfleet_engine_page.proofs.Pages.{nothing_left}
 use Rattle.buckfleet_engine_page.proofs.viewing.list_both.Goals as goal
 

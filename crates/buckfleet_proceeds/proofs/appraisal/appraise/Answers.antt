@@ -1,8 +1,7 @@
 use Rattle.std.proofs.Common.{◌++◌, All, length, take, sym, ap, subst, ◌∙◌, arith}
 use Rattle.buck_value.specs.Sheet.{SheetParts}
 use Rattle.buck_book_postings.specs.History.{IsLawful}
-use Rattle.buck_book_journal.specs.reading.Journal.{JournalParts}
-use Rattle.buck_book_journal.specs.judging.Replay.{history_of}
+use Rattle.buck_book_journal.specs.Journal.{JournalParts, history_of}
 use Rattle.buck_page_figures.specs.Journals.{postings_of}
 use Rattle.buck_page_figures.proofs.GradeLemmas.{postings_next}
 use Rattle.buck_page_figures.proofs.JournalLemmas.{entries_there, within_all}

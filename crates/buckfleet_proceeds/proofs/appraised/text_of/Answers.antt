@@ -1,5 +1,5 @@
 use Rattle.std.proofs.Common.{◌≡◌, List, subst, rules}
-use Rattle.buck_book_journal.specs.reading.Journal.{JournalParts}
+use Rattle.buck_book_journal.specs.Journal.{JournalParts}
 use Rattle.buck_page_figures.specs.Journals.{postings_of}
 use Rattle.buckfleet_proceeds.specs.Appraisal.{IsAppraisal}
 use Rattle.buckfleet_proceeds.specs.Text.{appraisal_text}

@@ -1,7 +1,7 @@
 use Rattle.std.proofs.Common.{◌-◌, length, arith, rules}
 use Rattle.buck_book_postings.specs.declared.posting.Posting.TheVariants.{Cut}
 use Rattle.buck_book_postings.specs.History.{IsLawful}
-use Rattle.buck_book_journal.specs.judging.Replay.{history_of}
+use Rattle.buck_book_journal.specs.Journal.{history_of}
 use Rattle.wrong_book.proofs.parts.last_part_dropped.Goals as goal
 
 pub prove-unreachable-requires : goal.prove-unreachable-requires

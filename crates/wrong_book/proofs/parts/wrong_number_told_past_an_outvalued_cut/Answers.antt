@@ -1,6 +1,7 @@
 use Rattle.std.proofs.Common.{arith, rules}
-use Rattle.buck_book_journal.specs.declared.judging.fault.ReplayFault.TheVariants.{Numbering}
-use Rattle.buck_book_journal.specs.judging.Replay.{history_of, IsFirstFault}
+use Rattle.buck_book_journal.specs.declared.replay_fault.ReplayFault.TheVariants.{Numbering}
+use Rattle.buck_book_journal.specs.Journal.{history_of}
+use Rattle.buck_book_replay.specs.Replay.{IsFirstFault}
 use Rattle.wrong_book.proofs.Faults.{number_not_later}
 use Rattle.wrong_book.proofs.parts.wrong_number_told_past_an_outvalued_cut.Goals as goal
 

@@ -2,7 +2,7 @@ use Rattle.std.proofs.Common.{◌≡◌, subst, List, [], ◌∷◌, Option, Som
 use Rattle.buck_value.specs.Sheet.{SheetParts}
 use Rattle.buck_book_postings.specs.Entry.{EntryParts}
 use Rattle.buck_book_postings.specs.History.{prices_at}
-use Rattle.buck_book_journal.specs.reading.Journal.{JournalParts}
+use Rattle.buck_book_journal.specs.Journal.{JournalParts}
 use Rattle.buck_page_figures.specs.Figures.{base_sheet}
 use Rattle.buck_page_figures.specs.Pieces.{IsCut, IsToldAt}
 use Rattle.buck_page_figures.specs.declared.figures.Cut.{Cut as Told}

@@ -1,4 +1,4 @@
-use Rattle.buck_book_journal.specs.judging.Replay.{history_of}
+use Rattle.buck_book_journal.specs.Journal.{history_of}
 use Rattle.buckfleet_engine_files.proofs.LastSheet.{number_given}
 use Rattle.buckfleet_engine.proofs.run.reporting.last_prices.Goals as goal
 

@@ -1,5 +1,0 @@
-use Rattle.buck_book_journal.proofs.Words.{◌+◌, ◌*◌, NoneDoubtful}
-use Rattle.buck_book_journal.proofs.judging.outvalued.first_by_size.Given as goal
-
-abbrev pub invariant-loop-k : goal.invariant-loop-k
-invariant-loop-k g l = NoneDoubtful l.case l.fn.from (l.fn.from + l.k * l.size)

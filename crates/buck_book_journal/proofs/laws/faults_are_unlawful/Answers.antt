@@ -1,5 +1,0 @@
-use Rattle.buck_book_journal.proofs.Faults.{no_first_fault}
-use Rattle.buck_book_journal.proofs.laws.faults_are_unlawful.Goals as goal
-
-pub returns : goal.returns
-returns c = λ h fault v wrong l. no_first_fault h v l fault wrong

@@ -1,0 +1,3 @@
+-- What the crate's own functions show one another.
+pub mod Sheets
+pub mod Replay

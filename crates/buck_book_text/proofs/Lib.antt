@@ -1,0 +1,11 @@
+pub mod Words
+pub mod Tuples
+pub mod Limits
+pub mod Walk
+pub mod Lines
+pub mod Texts
+pub mod Within
+pub mod OnePass
+pub mod Sequence
+pub mod Alone
+pub mod Digits

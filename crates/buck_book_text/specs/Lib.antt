@@ -1,0 +1,4 @@
+pub mod Written
+pub mod reading
+pub mod Ranges
+pub mod inner
