@@ -79,7 +79,7 @@ WIDE = {
     "buck_dp": 1,
     "buck_book_postings": 4,
     "buck_fleet": 2,
-    "buck_page": 10,
+    "buck_page_sections": 10,
     "buckfleet_engine_page": 8,
     "buckfleet_engine": 1,
     "buckfleet": 3,

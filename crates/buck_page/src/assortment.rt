@@ -1,11 +1,10 @@
 //! The section of an assortment: what it is, its curves and its matrices.
 ghost use Rattle.std.specs.Prelude.{◌<◌, length};
 
-use crate::degrees::is_steered;
-use crate::rates::mean_log;
 use buck_apt::Assortment;
 use buck_page_charts::{write_degree_chart, write_matrices, write_price_chart};
 use buck_page_figures::{Figures, Part};
+use buck_page_sections::{is_steered, mean_log};
 use buck_page_text::{Apart, Chip, DOT, Grouped, Millionths, Several};
 use buck_record::Memory;
 use std::alloc::Global;

@@ -1,8 +1,8 @@
 //! The page of a journal that isn't lawful.
-use crate::head::{Files, PAGE_END, SIGN, begin_page};
 use buck_apt::Instruction;
 use buck_book_journal::ReplayFault;
 use buck_book_postings::Posting;
+use buck_page_sections::{Files, PAGE_END, SIGN, begin_page};
 use buck_page_text::{Apart, Grouped, class_text};
 use buck_record::{Memory, Numbered};
 use std::alloc::Global;

@@ -2,21 +2,9 @@
 #![tactic(auto)]
 
 mod assortment;
-mod degrees;
 mod fault;
-mod harvesters;
-mod head;
-mod lacking;
-mod list;
-mod notes;
-mod opening;
-mod rates;
-mod stems;
-mod style;
-mod targets;
 mod whole;
-mod wood;
 
+pub use buck_page_sections::Files;
 pub use fault::fault_page;
-pub use head::Files;
 pub use whole::page;

@@ -2,17 +2,13 @@
 ghost use Rattle.buck_page_figures.specs.Shown.{IsShown};
 
 use crate::assortment::write_assortment;
-use crate::degrees::write_degrees;
-use crate::harvesters::{write_costs, write_harvesters};
-use crate::head::{Files, PAGE_END, begin_page};
-use crate::lacking::write_lacking;
-use crate::notes::write_notes;
-use crate::opening::write_opening;
-use crate::stems::write_stems;
-use crate::targets::write_targets;
-use crate::wood::write_wood_section;
 use buck_dp::Planner;
 use buck_page_figures::{Figures, grade_free_of};
+use buck_page_sections::{
+    Files, PAGE_END, begin_page, write_costs, write_degrees, write_harvesters, write_lacking,
+    write_notes, write_opening, write_targets, write_wood_section,
+};
+use buck_page_stems::write_stems;
 use buck_record::Memory;
 use std::alloc::Global;
 

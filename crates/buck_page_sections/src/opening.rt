@@ -123,8 +123,8 @@ fn write_verdict(out: &mut String, figures: &Figures<'_>, journals: usize) -> Re
     Ok(write!(out, ".</span></p>")?)
 }
 
-/// Writes the head of the page: what was cut, what was checked, and the sums.
-pub(crate) fn write_opening(
+/// Writes the head of the page: what was cut, what was checked, and the sums. Refused as `Memory` alone.
+pub fn write_opening(
     out: &mut String,
     figures: &Figures<'_>,
     files: &Files<'_>,

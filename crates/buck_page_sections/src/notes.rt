@@ -48,8 +48,8 @@ fn write_shares(out: &mut String) -> Result<(), Memory> {
     )?)
 }
 
-/// Writes the section of what the page's words mean.
-pub(crate) fn write_notes(out: &mut String, figures: &Figures<'_>) -> Result<(), Memory> {
+/// Writes the section of what the page's words mean. Refused as `Memory` alone.
+pub fn write_notes(out: &mut String, figures: &Figures<'_>) -> Result<(), Memory> {
     write!(
         out,
         "\n<section class=\"notes\"><h2>How to read this page</h2><dl>\

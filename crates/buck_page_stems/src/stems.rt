@@ -2,13 +2,9 @@
 ghost use Rattle.std.specs.Prelude.{◌<◌, ◌≤◌, ◌^◌, length};
 ghost use Rattle.buck_page_figures.specs.Shown.{IsShown};
 
-mod drawing;
-mod picks;
-mod under;
-
-use crate::stems::drawing::{Scale, scale_of, write_drawing};
-use crate::stems::picks::{Pick, picked, write_reasons};
-use crate::stems::under::{write_grades, write_labels, write_metres, write_strip};
+use crate::drawing::{Scale, scale_of, write_drawing};
+use crate::picks::{Pick, picked, write_reasons};
+use crate::under::{write_grades, write_labels, write_metres, write_strip};
 use buck_dp::Planner;
 use buck_page_figures::{Cut, Figures, cut_at};
 use buck_page_text::{Apart, Chip, DOT, Grouped, Metres, Millionths, Several};
@@ -108,8 +104,8 @@ fn write_lead(out: &mut String, figures: &Figures<'_>, drawn: usize) -> Result<(
     Ok(write!(out, "</p>")?)
 }
 
-/// Writes the section of the stems, if one was cut.
-pub(crate) fn write_stems(
+/// Writes the section of the stems, if one was cut. Refused as `Memory` alone.
+pub fn write_stems(
     alloc: Global,
     out: &mut String,
     figures: &Figures<'_>,

@@ -2,7 +2,7 @@
 ghost use Rattle.std.specs.Prelude.{◌<◌, ◌≤◌, ◌^◌};
 ghost use Rattle.buck_stem.specs.Stem.{stem_length};
 
-use crate::stems::picks::Pick;
+use crate::picks::Pick;
 use buck_page_figures::{Cut, Piece};
 use buck_page_text::{Millionths, letter, tick_step};
 use buck_record::Memory;

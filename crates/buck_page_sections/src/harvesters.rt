@@ -38,8 +38,8 @@ fn write_sums(out: &mut String, sums: &Sums) -> Result<(), Memory> {
     )?)
 }
 
-/// Writes the section of the harvesters.
-pub(crate) fn write_harvesters(out: &mut String, figures: &Figures<'_>) -> Result<(), Memory> {
+/// Writes the section of the harvesters. Refused as `Memory` alone.
+pub fn write_harvesters(out: &mut String, figures: &Figures<'_>) -> Result<(), Memory> {
     write!(
         out,
         "\n<section id=\"harvesters\"><h2>Harvesters</h2><div class=\"scroll\"><table class=\"list\"><thead><tr><th \
@@ -79,8 +79,8 @@ fn write_cost(out: &mut String, sums: &Sums, free: Option<&Free>) -> Result<(), 
     )?)
 }
 
-/// Writes the section of what grades and steering cost.
-pub(crate) fn write_costs(
+/// Writes the section of what grades and steering cost. Refused as `Memory` alone.
+pub fn write_costs(
     out: &mut String,
     figures: &Figures<'_>,
     free: &GradeFree,

@@ -1,5 +1,5 @@
 //! What stands under the drawing of a stem: labels, the cutting unsteered, grades and metres.
-use crate::stems::drawing::Scale;
+use crate::drawing::Scale;
 use buck_apt::Instruction;
 use buck_page_figures::Piece;
 use buck_page_text::{Percent, length_text, letter, percent_at, tick_step};

@@ -29,8 +29,8 @@ impl fmt::Display for Files<'_> {
 }
 
 /// Returns what begins a page of this title, down to its heading. Its policy lets nothing be loaded, whatever a name
-/// says.
-pub(crate) fn begin_page(alloc: Global, title: &str) -> Result<String, Memory> {
+/// says. Refused as `Memory` alone.
+pub fn begin_page(alloc: Global, title: &str) -> Result<String, Memory> {
     let mut out = String::new(alloc);
     write!(
         &mut out,
@@ -44,9 +44,9 @@ pub(crate) fn begin_page(alloc: Global, title: &str) -> Result<String, Memory> {
 }
 
 /// What ends a page.
-pub(crate) const PAGE_END: &str = "\n</body>\n</html>\n";
+pub const PAGE_END: &str = "\n</body>\n</html>\n";
 
 /// The sign of a verdict, up to its path.
-pub(crate) const SIGN: &str =
+pub const SIGN: &str =
     "<svg viewBox=\"0 0 20 20\" width=\"20\" height=\"20\" aria-hidden=\"true\">\
      <circle cx=\"10\" cy=\"10\" r=\"10\"/><path d=";

@@ -6,8 +6,8 @@ use buck_page_figures::{Figures, degrees_at, part, sum_of};
 use buck_page_text::{Apart, Chip, Signed, degree_text, difference_of};
 use buck_record::Memory;
 
-/// Whether anything is wanted of the assortment at a place, by the targets last in force.
-pub(crate) fn is_steered(figures: &Figures<'_>, at: usize) -> bool
+/// Whether anything is wanted of the assortment at an index, from 0, by the targets last in force.
+pub fn is_steered(figures: &Figures<'_>, at: usize) -> bool
     requires { at < length figures.now.instruction.now.assortments }
 {
     sum_of(part(figures.instruction, figures.targets.as_slice(), at)) > 0
@@ -75,8 +75,8 @@ fn write_degrees_of(out: &mut String, figures: &Figures<'_>, at: usize) -> Resul
     )?)
 }
 
-/// Writes the section of the degrees.
-pub(crate) fn write_degrees(out: &mut String, figures: &Figures<'_>) -> Result<(), Memory> {
+/// Writes the section of the degrees. Refused as `Memory` alone.
+pub fn write_degrees(out: &mut String, figures: &Figures<'_>) -> Result<(), Memory> {
     write!(
         out,
         "\n<section id=\"degrees\"><h2>Degree of apportionment</h2><p class=\"lead\">How close the logs came to the \

@@ -1,5 +1,5 @@
 use Rattle.std.proofs.Common.{◌≤◌, ◌*◌, ◌^◌}
-use Rattle.buck_page.proofs.wood.Wood.of_all.Given as goal
+use Rattle.buck_page_sections.proofs.wood.Wood.of_all.Given as goal
 
 abbrev pub invariant-loop-part : goal.invariant-loop-part
 invariant-loop-part l =

@@ -92,8 +92,8 @@ fn write_demands(out: &mut String, figures: &Figures<'_>, hidden: u64) -> Result
     Ok(())
 }
 
-/// Writes the section of the targets, if there is a demand.
-pub(crate) fn write_targets(out: &mut String, figures: &Figures<'_>) -> Result<(), Memory> {
+/// Writes the section of the targets, if there is a demand. Refused as `Memory` alone.
+pub fn write_targets(out: &mut String, figures: &Figures<'_>) -> Result<(), Memory> {
     let demands = figures.total.demands;
     if demands == 0 {
         return Ok(());

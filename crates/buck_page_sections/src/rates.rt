@@ -15,7 +15,7 @@ pub(crate) fn mean(sum: u128, number: u128, places: u8) -> Known
 }
 
 /// How long a log is in metres with two decimals, in the mean, given their length in mm, if there are any.
-pub(crate) fn mean_log(logged: u128, logs: u128) -> Known
+pub fn mean_log(logged: u128, logs: u128) -> Known
     requires { (logged < 2 ^ 125) × (logs < 2 ^ 121) }
 {
     mean(logged, 10 * logs, 2)

@@ -142,8 +142,8 @@ fn write_wood(out: &mut String, wood: &Steered, all: &Steered) -> Result<(), Mem
     )?)
 }
 
-/// Writes the section that shows what steering did to the wood.
-pub(crate) fn write_wood_section(out: &mut String, figures: &Figures<'_>) -> Result<(), Memory> {
+/// Writes the section that shows what steering did to the wood. Refused as `Memory` alone.
+pub fn write_wood_section(out: &mut String, figures: &Figures<'_>) -> Result<(), Memory> {
     let groups = [
         Group("Logs", &["as cut", "unsteered"]),
         Group("Volume, m&#179;", &["as cut", "unsteered"]),

@@ -56,8 +56,8 @@ fn write_lack(out: &mut String, figures: &Figures<'_>, lack: &Lack) -> Result<()
     )
 }
 
-/// Writes the section of the classes that lack most, if one lacks and something was cut.
-pub(crate) fn write_lacking(
+/// Writes the section of the classes that lack most, if one lacks and something was cut. Refused as `Memory` alone.
+pub fn write_lacking(
     alloc: Global,
     out: &mut String,
     figures: &Figures<'_>,
