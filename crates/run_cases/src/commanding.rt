@@ -1,10 +1,9 @@
 //! What comes of a case of the command line: its words over files and streams in memory.
 ghost use Rattle.std.specs.Prelude.{⊤};
 
-use crate::case::{Inputs, Named};
-use crate::running::Outcome;
 use buckfleet_command::{Known, Place, Screen, Streams, Trouble, run};
 use buckfleet_engine_files::{Make, Open};
+use fixture_cases::{Inputs, Named, Outcome};
 use std::alloc::Global;
 use std::cell::Cell;
 use std::io;

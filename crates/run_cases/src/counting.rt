@@ -1,87 +1,20 @@
-//! Files of cases, counted.
-use crate::case::Case;
-use crate::running::{Outcome, outcome_of};
-use buck_record::{Memory, put_number};
+//! Files of cases, run.
+use crate::running::outcome_of;
+use buck_record::Memory;
+use fixture_cases::{Case, Count, put_report, read_line};
 use std::alloc::Global;
 use std::sync::Wait;
 use std::thread::Threads;
 
-/// How many differences of a file are shown.
-const SHOWN: u32 = 3;
-
-/// What is said of the cases of a file so far.
-#[derive(Drop)]
-struct Count {
-    cases: u32,
-    differ: u32,
-    /// What differs, for a reader.
-    told: Vec<u8>,
-}
-
-/// Adds what came of a case, or what it wanted.
-fn put_outcome(told: &mut Vec<u8>, name: &str, outcome: &Outcome) -> Result<(), Memory> {
-    told.extend_from_slice(name.as_bytes())?;
-    told.extend_from_slice(outcome.text.as_slice())?;
-    told.extend_from_slice(outcome.journal.as_slice())?;
-    told.extend_from_slice(outcome.line.as_slice())?;
-    Ok(())
-}
-
-impl Count {
-    /// Counts a case that was read whole: it is run, and compared with what it wants.
-    fn run<T: Threads + Wait + Sync>(
-        &mut self,
-        rt: &T,
-        alloc: Global,
-        case: &Case<'_>,
-    ) -> Result<(), Memory> {
-        let got = outcome_of(rt, alloc, case);
-        self.cases = self.cases.saturating_add(1);
-        if got.is_same(&case.wanted) {
-            return Ok(());
-        }
-        self.tell(case.title)?;
-        if self.differ <= SHOWN {
-            put_outcome(&mut self.told, "  wanted:\n", &case.wanted)?;
-            put_outcome(&mut self.told, "  got:\n", &got)?;
-        }
-        Ok(())
-    }
-
-    /// Counts a case that differs, and names it if it is among the first.
-    fn tell(&mut self, title: &str) -> Result<(), Memory> {
-        self.differ = self.differ.saturating_add(1);
-        if self.differ <= SHOWN {
-            self.told.extend_from_slice(b"  differs: ")?;
-            self.told.extend_from_slice(title.as_bytes())?;
-            self.told.extend_from_slice(b"\n")?;
-        }
-        Ok(())
-    }
-}
-
-/// Reads the next line of a file of cases: a case that is whole then is run.
-fn read_line<'a, T: Threads + Wait + Sync>(
+/// Runs a case that was read whole, and counts it.
+fn run_case<T: Threads + Wait + Sync>(
     rt: &T,
     alloc: Global,
-    line: &'a str,
-    case: &mut Case<'a>,
+    case: &Case<'_>,
     count: &mut Count,
 ) -> Result<(), Memory> {
-    match line.strip_prefix("== ") {
-        Some(title) => {
-            if case.is_begun() {
-                count.run(rt, alloc, case)?;
-            }
-            case.begin(title);
-        }
-        None => {
-            if !case.read(alloc, line)? {
-                count.tell(line)?;
-            }
-        }
-    }
-    Ok(())
+    let got = outcome_of(rt, alloc, case);
+    count.compare(case, &got)
 }
 
 /// Runs the cases of a file, one after the other.
@@ -93,23 +26,14 @@ fn run_all<'a, T: Threads + Wait + Sync>(
     count: &mut Count,
 ) -> Result<(), Memory> {
     for line in text.lines() {
-        read_line(rt, alloc, line, case, count)?;
+        if case.ends_before(line) {
+            run_case(rt, alloc, case, count)?;
+        }
+        read_line(alloc, line, case, count)?;
     }
     if case.is_begun() {
-        count.run(rt, alloc, case)?;
+        run_case(rt, alloc, case, count)?;
     }
-    Ok(())
-}
-
-/// Puts the line of a file of cases, and below it what differs.
-fn put_report(out: &mut Vec<u8>, name: &str, count: &Count) -> Result<(), Memory> {
-    out.extend_from_slice(name.as_bytes())?;
-    out.extend_from_slice(b":")?;
-    put_number(out, u128::from(count.cases))?;
-    out.extend_from_slice(b" cases,")?;
-    put_number(out, u128::from(count.differ))?;
-    out.extend_from_slice(b" differ\n")?;
-    out.extend_from_slice(count.told.as_slice())?;
     Ok(())
 }
 
@@ -121,11 +45,7 @@ pub fn report_on<T: Threads + Wait + Sync>(
     text: &str,
     out: &mut Vec<u8>,
 ) -> Result<(), Memory> {
-    let mut count = Count {
-        cases: 0,
-        differ: 0,
-        told: Vec::new(alloc),
-    };
+    let mut count = Count::none(alloc);
     let mut case = Case::none(alloc);
     run_all(rt, alloc, text, &mut case, &mut count)?;
     put_report(out, name, &count)

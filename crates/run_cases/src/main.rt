@@ -3,7 +3,6 @@
 //! implementation can run them too.
 #![tactic(auto)]
 
-mod case;
 mod commanding;
 mod counting;
 mod running;

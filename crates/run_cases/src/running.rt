@@ -1,54 +1,14 @@
 //! What comes of a case.
 ghost use Rattle.buck_rule.specs.Stored.{AllAnswer};
 
-use crate::case::{Case, Engine, Inputs};
 use crate::commanding::outcome_of_words;
 use buck_rule::{NamedRule, Rule, Standing};
 use buckfleet_engine::{run_bare, run_buck, run_check, run_fleet_files};
 use buckfleet_engine_files::{EngineFault, status, write_fault};
+use fixture_cases::{Case, Engine, Inputs, Outcome};
 use std::alloc::Global;
 use std::sync::Wait;
 use std::thread::Threads;
-
-/// What a run writes, and how it ends.
-#[derive(Drop)]
-pub struct Outcome {
-    /// What it prints.
-    pub text: Vec<u8>,
-    /// The journal of a fleet.
-    pub journal: Vec<u8>,
-    /// The line of its fault.
-    pub line: Vec<u8>,
-    /// The exit status.
-    pub status: u8,
-}
-
-impl Outcome {
-    /// Nothing written, and the status 0.
-    pub fn none(alloc: Global) -> Outcome {
-        Outcome {
-            text: Vec::new(alloc),
-            journal: Vec::new(alloc),
-            line: Vec::new(alloc),
-            status: 0,
-        }
-    }
-
-    /// The same again.
-    pub fn clear(&mut self) {
-        self.text.clear();
-        self.journal.clear();
-        self.line.clear();
-        self.status = 0;
-    }
-
-    pub fn is_same(&self, other: &Outcome) -> bool {
-        self.status == other.status
-            && self.line.as_slice() == other.line.as_slice()
-            && self.text.as_slice() == other.text.as_slice()
-            && self.journal.as_slice() == other.journal.as_slice()
-    }
-}
 
 /// A fleet of one harvester.
 fn run_by<F: Fn(&Standing) -> u64 + Drop + Send, T: Threads + Wait + Sync>(

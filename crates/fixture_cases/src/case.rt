@@ -1,5 +1,5 @@
 //! Cases, line by line, as their files have them.
-use crate::running::Outcome;
+use crate::outcome::Outcome;
 use buck_record::Memory;
 use buck_rule::NamedRule;
 use std::alloc::Global;
@@ -168,6 +168,11 @@ impl<'a> Case<'a> {
     /// Whether there is a case.
     pub fn is_begun(&self) -> bool {
         !self.title.is_empty()
+    }
+
+    /// Whether there is a case, of which this line of a file is no part.
+    pub fn ends_before(&self, line: &str) -> bool {
+        self.is_begun() && line.starts_with("== ")
     }
 
     /// Begins the next case: its files are those of the case before, and it has no words and wants nothing yet.
