@@ -32,11 +32,11 @@ ABOUT = {
     "wrong_book::book::other_rule_begins_anew": ("buck_book_postings", "Book::with_rule"),
     "wrong_book::book::posting_clone_as_the_first": ("buck_book_postings", "Posting::clone"),
     "wrong_book::walk::begins_after_a_cut": ("buck_book_postings", "Walk::begins_period"),
-    "wrong_sweep::runs::period_of_nothing_accepted": ("buckfleet_trial_sweep", "combinations"),
+    "wrong_sweep::runs::period_of_nothing_accepted": ("buckfleet_tasks", "combinations"),
     "wrong_page::figures::count_of_the_last_cut_forgotten": ("buck_page_figures", "figures_of"),
     "wrong_page::names::*_gets_through": ("buck_page_text", "Name"),
     "wrong_page::names::text_printed_by_its_bytes": ("buck_page_text", "Name"),
-    "wrong_engine::views::journals_65_accepted": ("buckfleet_engine_page", "ViewTask"),
+    "wrong_engine::views::journals_65_accepted": ("buckfleet_tasks", "ViewTask"),
     "wrong_world::steps::*": ("buck_fleet_world", "World::step"),
 }
 

@@ -11,7 +11,7 @@ use Rattle.buckfleet_terms_files.specs.declared.fault.TermsFault.{TermsFault}
 use Rattle.buckfleet_terms_files.specs.declared.fault.TermsFault.TheVariants.{Run}
 use Rattle.buckfleet_terms_files.specs.Faults.{no_memory}
 use Rattle.buckfleet_terms_files.specs.Telling.{WritesTerms}
-use Rattle.buckfleet_trial_sweep.specs.declared.combination.Combination.{Combination}
+use Rattle.buckfleet_tasks.specs.declared.combination.Combination.{Combination}
 use Rattle.buck_c_calls.specs.declared.asked.Run.{Run as RunAsked}
 use Rattle.buck_c_calls.specs.declared.several.Stop.{Stop}
 use Rattle.buck_c_calls.specs.declared.several.Stop.TheVariants.{Misused, Fault}

@@ -5,8 +5,8 @@ use Rattle.buck_book_postings.specs.History.{HistoryParts}
 use Rattle.buck_book_text.specs.Written.{journal_text}
 use Rattle.buckfleet_engine_files.specs.declared.fault.EngineFault.{EngineFault}
 use Rattle.buckfleet_engine_files.specs.declared.fault.EngineFault.TheVariants.{Read, Write, Apt, Stm, Journal, JournalOf, Replay, ReplayOf, Check, Seats, Full, Memory, Close}
-use Rattle.buckfleet_engine.specs.declared.fleet.serving.Order.{Order}
-use Rattle.buckfleet_engine.specs.declared.fleet.serving.Order.TheVariants.{InTurn}
+use Rattle.buckfleet_tasks.specs.declared.harvests.Order.{Order}
+use Rattle.buckfleet_tasks.specs.declared.harvests.Order.TheVariants.{InTurn}
 use Rattle.buckfleet_engine_text.specs.Report.{IsReport}
 use Rattle.buckfleet_engine_files.specs.Ruled.{FollowsRule}
 use Rattle.buck_rule.specs.declared.named.NamedRule.{NamedRule}

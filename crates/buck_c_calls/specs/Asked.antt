@@ -2,9 +2,9 @@
 use Rattle.std.specs.Prelude.{◌≡◌, ◌==◌, ℕ, cond, Option, Some, None}
 use Rattle.buck_apt.specs.Settings.{SettingsParts, IsSettings}
 use Rattle.buck_rule.specs.declared.named.NamedRule.{NamedRule}
-use Rattle.buckfleet_engine_cross_check.specs.declared.running.CrossCheck.{CrossCheck}
+use Rattle.buckfleet_tasks.specs.declared.journals.CrossCheck.{CrossCheck}
 use Rattle.buckfleet_trial_draws.specs.declared.orders.Draws.{Draws}
-use Rattle.buckfleet_trial_sweep.specs.declared.combination.Combination.{Combination}
+use Rattle.buckfleet_tasks.specs.declared.combination.Combination.{Combination}
 use Rattle.buck_c_calls.specs.declared.asked.Numbers.{Numbers}
 use Rattle.buck_c_calls.specs.declared.asked.Run.{Run}
 use Rattle.buck_c_calls.specs.declared.asked.Orders.{Orders}

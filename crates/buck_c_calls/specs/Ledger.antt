@@ -1,10 +1,10 @@
 -- What the calls answer over journals.
 use Rattle.std.specs.Prelude.{◌≡◌, ◌<◌, ◌≤◌, ◌+◌, ℕ, List, ◌∷◌, length, Some}
 use Rattle.buck_apt.specs.Settings.{SettingsParts}
-use Rattle.buckfleet_engine_cross_check.specs.declared.running.CrossCheck.{CrossCheck}
+use Rattle.buckfleet_tasks.specs.declared.journals.CrossCheck.{CrossCheck}
 use Rattle.buckfleet_engine_files.specs.Reading.{apt_with}
 use Rattle.buckfleet_engine_cross_check.specs.Answers.{AnswersCheckWith}
-use Rattle.buckfleet_proceeds.specs.declared.task.CompareTask.{CompareTask}
+use Rattle.buckfleet_tasks.specs.declared.journals.CompareTask.{CompareTask}
 use Rattle.buckfleet_proceeds.specs.Serving.{AnswersAppraise, AnswersCompare}
 use Rattle.buck_c_calls.specs.declared.asked.Numbers.{Numbers}
 use Rattle.buck_c_calls.specs.declared.asked.Pair.{Pair}

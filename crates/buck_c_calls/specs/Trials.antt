@@ -1,7 +1,7 @@
 -- What the calls answer that say what a harvest would come to.
 use Rattle.std.specs.Prelude.{◌+◌, ℕ, List, [], ◌∷◌, length, min, Option, Some, None}
 use Rattle.std.specs.List.{AllZip}
-use Rattle.buckfleet_trial_sweep.specs.declared.combination.Combination.{Combination}
+use Rattle.buckfleet_tasks.specs.declared.combination.Combination.{Combination}
 use Rattle.buckfleet_trial.specs.Trial.{AnswersTrial}
 use Rattle.buckfleet_trial.specs.Tune.{AnswersTune}
 use Rattle.buckfleet_trial.specs.Wishes.{AnswersWishes}

@@ -6,7 +6,7 @@ use Rattle.buck_book_postings.specs.History.{HistoryParts}
 use Rattle.buck_book_text.specs.Written.{journal_text}
 use Rattle.buckfleet_engine_files.specs.declared.fault.EngineFault.{EngineFault}
 use Rattle.buckfleet_engine_files.specs.declared.fault.EngineFault.TheVariants.{Memory}
-use Rattle.buckfleet_engine.specs.declared.fleet.serving.Order.TheVariants.{InTurn}
+use Rattle.buckfleet_tasks.specs.declared.harvests.Order.TheVariants.{InTurn}
 use Rattle.buckfleet_engine.specs.fleet.Running.{AnswersFleet}
 use Rattle.buckfleet_engine_text.specs.Report.{IsReport}
 use Rattle.buckfleet_engine_files.specs.Ruled.{FollowsRule}

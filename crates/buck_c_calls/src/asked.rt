@@ -3,8 +3,8 @@ ghost use Rattle.std.specs.Prelude.{◌≡◌, ◌↔◌, IfNone, IfOk, IfErr, I
 ghost use Rattle.std.specs.List.{AllZip};
 ghost use Rattle.buck_apt.specs.Instruction.{IsWithin};
 ghost use Rattle.buck_apt.specs.Settings.{SettingsParts};
-ghost use Rattle.buckfleet_engine_cross_check.specs.declared.running.CrossCheck.{CrossCheck};
-ghost use Rattle.buckfleet_trial_sweep.specs.declared.combination.Combination.{Combination};
+ghost use Rattle.buckfleet_tasks.specs.declared.journals.CrossCheck.{CrossCheck};
+ghost use Rattle.buckfleet_tasks.specs.declared.combination.Combination.{Combination};
 ghost use Rattle.buck_c_calls.specs.Asked.{AreSettings, IsCombination, IsCrossCheck, draws_by, told};
 ghost use Rattle.buck_c_calls.specs.inner.Stopped.{AreUncombined};
 

@@ -2,7 +2,7 @@
 ghost use Rattle.std.specs.Prelude.{◌≡◌, ◌<◌, Some, Err, IfOk, IfErr, map, length, sum};
 ghost use Rattle.buck_apt.specs.Apt.{apt_of};
 ghost use Rattle.buck_rule.specs.GivenBy.{GivesBy};
-ghost use Rattle.buckfleet_engine.specs.declared.fleet.serving.Order.TheVariants.{InTurn};
+ghost use Rattle.buckfleet_tasks.specs.declared.harvests.Order.TheVariants.{InTurn};
 ghost use Rattle.buckfleet_engine.specs.fleet.Running.{AnswersFleet};
 ghost use Rattle.buck_c_calls.specs.Turns.{ArePut, AreRefused, AreTexts, HaveTexts, IsTurned};
 

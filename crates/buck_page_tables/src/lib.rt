@@ -7,4 +7,5 @@ mod postings;
 mod put;
 mod tables;
 
-pub use tables::{Table, table_of};
+pub use buck_page_cells::Table;
+pub use tables::table_of;

@@ -8,21 +8,10 @@ use crate::classes::{put_assortments, put_classes};
 use crate::degrees::{put_degrees, put_lacking};
 use crate::postings::{put_logs, put_postings};
 use buck_dp::Planner;
+use buck_page_cells::Table;
 use buck_page_figures::Figures;
 use buck_record::Memory;
 use std::alloc::Global;
-
-/// A table: a line for each class, posting, log or assortment, for each assortment at each point of its curves, or for
-/// each class that lacks logs.
-#[derive(Clone, Copy, Debug, PartialEq, Eq)]
-pub enum Table {
-    Classes,
-    Postings,
-    Logs,
-    Degrees,
-    Assortments,
-    Lacking,
-}
 
 /// A table of lawful journals, given their figures and a planner at base prices. Refused as `Memory` alone.
 pub fn table_of(

@@ -13,8 +13,8 @@ use Rattle.buckfleet_trial.specs.Serving.{RunsTrial, RunsTune, RunsWishes}
 use Rattle.buckfleet_proceeds.specs.Serving.{RunsAppraise, RunsCompare}
 use Rattle.buckfleet_terms_files.specs.declared.fault.TermsFault.{TermsFault}
 use Rattle.buckfleet_terms_files.specs.declared.fault.TermsFault.TheVariants.{Run, Targets, Own}
-use Rattle.buckfleet_command.specs.declared.working.Work.{Work}
-use Rattle.buckfleet_command.specs.declared.working.Work.TheVariants.{Plain, Buck, Fleet, Check, View, Live, Sweep, Trial, Owned, Wishes, Tune, Appraise, Compare}
+use Rattle.buckfleet_tasks.specs.declared.work.Work.{Work}
+use Rattle.buckfleet_tasks.specs.declared.work.Work.TheVariants.{Plain, Buck, Fleet, Check, View, Live, Sweep, Trial, Owned, Wishes, Tune, Appraise, Compare}
 
 -- work that ends as a run may that has no file beside the instruction
 abbrev pub Ends : (Result (Unit {0}) EngineFault → Type 0) → Result (Unit {0}) TermsFault → Type 0

@@ -4,21 +4,15 @@
 //! disk. [`serve_work`] is what it does once it knows the [`Work`].
 #![tactic(auto)]
 
-mod inputs;
-mod known;
-mod notes;
-mod progress;
-mod reason;
 mod refusing;
 mod running;
 mod served;
-mod subject;
 mod teller;
-mod words;
 mod working;
 
-pub use known::{Known, KnownFiles, Trouble};
-pub use progress::Screen;
+pub use buckfleet_command_remarks::Screen;
+pub use buckfleet_command_streams::{Known, KnownFiles, Trouble};
+pub use buckfleet_tasks::Work;
 pub use running::{run, say_help};
 pub use served::Place;
-pub use working::{Streams, Work, serve_work};
+pub use working::{Streams, serve_work};

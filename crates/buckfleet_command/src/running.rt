@@ -1,10 +1,10 @@
 //! Whole runs, from the words to the exit status.
-use crate::known::Known;
-use crate::progress::Screen;
 use crate::served::{Place, serve_told};
-use crate::words::{Asked, parse};
 use crate::working::Streams;
 use buckfleet_command_line::{help_text, mistake};
+use buckfleet_command_remarks::Screen;
+use buckfleet_command_streams::Known;
+use buckfleet_command_words::{Asked, parse};
 use buckfleet_engine::{conclude, explain};
 use buckfleet_engine_files::{EngineFault, Make, Open};
 use buckfleet_explain::sentence;

@@ -2,16 +2,14 @@
 ghost use Rattle.std.specs.Prelude.{◌≡◌};
 ghost use Rattle.buckfleet_terms_files.specs.Telling.{terms_status_after};
 
-use crate::inputs::{Drawn, Inlet, Kept, Outlet, Shared, Spoken, Streamed};
-use crate::known::Known;
-use crate::progress::{Progress, Screen, Watched};
-use crate::reason::Inquest;
-use crate::subject::Subject;
-use crate::teller::Teller;
-use crate::words::Request;
+use crate::teller::{Spoken, Teller};
 use crate::working::{Streams, serve_work};
+use buckfleet_command_remarks::{Inquest, Progress, Screen, Watched};
+use buckfleet_command_streams::{Drawn, Inlet, Kept, Known, Outlet, Shared, Streamed};
+use buckfleet_command_words::Request;
 use buckfleet_engine::conclude;
 use buckfleet_engine_files::{EngineFault, Make, Open, status};
+use buckfleet_tasks::Subject;
 use buckfleet_terms_files::{TermsFault, conclude_terms};
 use std::alloc::Global;
 use std::io;

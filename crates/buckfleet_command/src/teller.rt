@@ -1,10 +1,12 @@
 //! What is said in words of a run beside what it prints: on the errors if that is asked for, else on the screen.
-use crate::progress::Screen;
 use crate::refusing::refusal;
-use crate::subject::INPUT;
 use buck_apt::Instruction;
+use buckfleet_command_remarks::Screen;
+use buckfleet_command_streams::Shared;
 use buckfleet_engine_files::EngineFault;
+use buckfleet_live::Replies;
 use buckfleet_reason::Source;
+use buckfleet_tasks::INPUT;
 use std::alloc::Global;
 use std::cell::{Cell, RefCell};
 use std::io;
@@ -76,5 +78,35 @@ impl<'a, E: io::Write, S: io::Write + Copy + Drop, C: Copy + Drop> Teller<'a, E,
         if let Ok(Some(text)) = refusal(self.alloc, &source, fits, instruction, answer) {
             self.say(text.as_str());
         }
+    }
+}
+
+/// Standard output of `live`, before whose answers the reason of a refused request is said in words.
+#[derive(Drop)]
+pub(crate) struct Spoken<'a, 'b, 'c, 'd, W, E, S, C> {
+    pub(crate) output: Shared<'a, 'b, W>,
+    pub(crate) teller: &'c Teller<'d, E, S, C>,
+}
+
+impl<'a, 'b, 'c, 'd, W: io::Write, E, S, C> io::Write for Spoken<'a, 'b, 'c, 'd, W, E, S, C> {
+    fn write(&mut self, buf: &[u8]) -> io::Result<usize> {
+        self.output.write(buf)
+    }
+
+    fn flush(&mut self) -> io::Result<()> {
+        self.output.flush()
+    }
+}
+
+impl<'a, 'b, 'c, 'd, W: io::Write, E: io::Write, S: io::Write + Copy + Drop, C: Copy + Drop> Replies
+    for Spoken<'a, 'b, 'c, 'd, W, E, S, C> {
+    fn hear(
+        &mut self,
+        line: &[u8],
+        fits: bool,
+        instruction: &Instruction,
+        answer: &Result<Vec<u8>, EngineFault>,
+    ) {
+        self.teller.hear(line, fits, instruction, answer);
     }
 }

@@ -1,61 +1,22 @@
-//! What is to be done, and doing it.
+//! The work of a run done by its engine.
 ghost use Rattle.std.specs.Prelude.{◌≡◌};
 ghost use Rattle.buckfleet_command.specs.Work.{DoesWork};
 
-use buckfleet_engine::{BuckTask, FleetTask, Task, serve, serve_buck, serve_fleet};
-use buckfleet_engine_cross_check::{CheckTask, serve_check};
-use buckfleet_engine_files::{Make, Open};
-use buckfleet_engine_page::{ViewTask, serve_view};
-use buckfleet_live::{LiveTask, Replies, serve_live};
-use buckfleet_proceeds::{AppraiseTask, CompareTask, serve_appraise, serve_compare};
+use buckfleet_engine::{serve, serve_buck, serve_fleet};
+use buckfleet_engine_cross_check::serve_check;
+use buckfleet_engine_files::{Make, Open, RunOnlooker};
+use buckfleet_engine_page::serve_view;
+use buckfleet_live::{Replies, serve_live};
+use buckfleet_proceeds::{serve_appraise, serve_compare};
+use buckfleet_tasks::Work;
 use buckfleet_terms_files::TermsFault;
-use buckfleet_trial::{
-    RunOnlooker, TrialTask, TuneTask, WishesTask, serve_trial, serve_tune, serve_wishes,
-};
-use buckfleet_trial_owned::{OwnedTask, serve_owned};
-use buckfleet_trial_sweep::{SweepTask, serve_sweep};
+use buckfleet_trial::{serve_trial, serve_tune, serve_wishes};
+use buckfleet_trial_owned::serve_owned;
+use buckfleet_trial_sweep::serve_sweep;
 use std::alloc::Global;
 use std::io;
 use std::sync::Wait;
 use std::thread::Threads;
-
-/// The work of a run.
-#[derive(Drop)]
-pub enum Work<'a> {
-    /// A task that waits for nobody.
-    Plain(Task<'a>),
-    /// Stems are to be bucked, in several threads at once.
-    Buck(BuckTask<'a>),
-    /// A fleet, whose harvesters wait for one another.
-    Fleet(FleetTask<'a>),
-    /// A journal is to be checked, also by stem files and a rule, in several threads at once.
-    Check(CheckTask<'a>),
-    /// A journal is to be shown, and checked before in several threads at once.
-    View(ViewTask<'a>),
-    /// Stems are to be cut as they are felled.
-    Live(LiveTask<'a>),
-    /// Rules, periods and limits are to be compared, in several threads at once.
-    Sweep(SweepTask<'a>),
-    /// Rules, periods and limits are to be compared with other targets, or with orders that are drawn.
-    Trial(TrialTask<'a>),
-    /// The same, with what is paid under an owner's contract.
-    Owned(OwnedTask<'a>),
-    /// It is to be found what each target costs.
-    Wishes(WishesTask<'a>),
-    /// An instruction is to be tuned on stems.
-    Tune(TuneTask<'a>),
-    /// Journals are to be appraised under an owner's instruction.
-    Appraise(AppraiseTask<'a>),
-    /// Two journals are to be set side by side.
-    Compare(CompareTask<'a>),
-}
-
-impl Work<'_> {
-    /// Whether both files stand on standard input.
-    pub(crate) fn is_bare(&self) -> bool {
-        matches!(self, Work::Plain(Task::Bare))
-    }
-}
 
 /// The streams that a run reads and writes beside its files.
 #[derive(Drop)]

@@ -6,8 +6,8 @@ use Rattle.std.proofs.KnownBytes.{Keeps-refl}
 use Rattle.buck_book_postings.specs.History.{HistoryParts}
 use Rattle.buckfleet_engine_files.specs.declared.fault.EngineFault.{EngineFault}
 use Rattle.buckfleet_engine_files.specs.declared.fault.EngineFault.TheVariants.{Write, Seats, Memory}
-use Rattle.buckfleet_engine.specs.declared.fleet.serving.Order.{Order}
-use Rattle.buckfleet_engine.specs.declared.fleet.serving.Order.TheVariants.{AtOnce, InTurn}
+use Rattle.buckfleet_tasks.specs.declared.harvests.Order.{Order}
+use Rattle.buckfleet_tasks.specs.declared.harvests.Order.TheVariants.{AtOnce, InTurn}
 use Rattle.buckfleet_engine_files.specs.Reading.{ReadsApt}
 use Rattle.buckfleet_engine.specs.fleet.Running.{AnswersFleet, IsFleetRun, IsFullInOrder, IsInOrder, WroteAll, WroteSome}
 use Rattle.buckfleet_engine_input.specs.Harvest.{AreNoSeats, IsFleetFault, IsHarvest}

@@ -4,8 +4,8 @@ use Rattle.std.proofs.lemmas.List.{length-map}
 use Rattle.std.specs.Option.{option_map}
 use Rattle.buck_book_postings.specs.History.{HistoryParts}
 use Rattle.buckfleet_engine_files.specs.declared.fault.EngineFault.{EngineFault}
-use Rattle.buckfleet_engine.specs.declared.fleet.serving.FleetTask.{FleetTask}
-use Rattle.buckfleet_engine.specs.declared.fleet.serving.Order.{Order}
+use Rattle.buckfleet_tasks.specs.declared.harvests.FleetTask.{FleetTask}
+use Rattle.buckfleet_tasks.specs.declared.harvests.Order.{Order}
 use Rattle.buckfleet_engine_files.specs.Lent.{of_made}
 use Rattle.buckfleet_engine.specs.fleet.Running.{IsFleetRun}
 use Rattle.buckfleet_engine_input.specs.Harvest.{AreNoSeats}

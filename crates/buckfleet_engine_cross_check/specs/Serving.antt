@@ -4,7 +4,7 @@ use Rattle.std.specs.Io.KnownBytes.{Keeps}
 use Rattle.buckfleet_engine_files.specs.declared.fault.EngineFault.{EngineFault}
 use Rattle.buckfleet_engine_files.specs.declared.fault.EngineFault.TheVariants.{Read}
 use Rattle.buck_rule.specs.declared.named.NamedRule.{NamedRule}
-use Rattle.buckfleet_engine_cross_check.specs.declared.serving.CheckTask.{CheckTask}
+use Rattle.buckfleet_tasks.specs.declared.journals.CheckTask.{CheckTask}
 use Rattle.buckfleet_engine_files.specs.Opening.{AnswersInputs}
 use Rattle.buckfleet_engine_files.specs.Reading.{ReadsApt, apt_with}
 use Rattle.buckfleet_engine_files.specs.Written.{WritesText}

@@ -7,5 +7,6 @@ mod prices;
 mod running;
 mod serving;
 
-pub use running::{CrossCheck, run_check_with};
-pub use serving::{CheckTask, serve_check};
+pub use buckfleet_tasks::{CheckTask, CrossCheck};
+pub use running::run_check_with;
+pub use serving::serve_check;

@@ -26,6 +26,7 @@ use buckfleet_engine_files::{
     Both, CheckFault, EngineFault, Workers, lawful_text, read_instruction_with, read_postings,
     unlawful, write_text,
 };
+use buckfleet_tasks::CrossCheck;
 use std::alloc::Global;
 use std::io;
 use std::sync::Arc;
@@ -98,15 +99,6 @@ fn check_ties(
         Some(fault) => Err(EngineFault::Check(fault)),
         None => Ok(()),
     }
-}
-
-/// The rule and the numbers that a journal is checked by, beside its files.
-#[derive(Drop)]
-pub struct CrossCheck {
-    /// The rule that the prices are held against, if one is named.
-    pub rule: Option<NamedRule>,
-    /// The numbers that are put in the place of the instruction's own.
-    pub settings: Settings,
 }
 
 /// An instruction, a journal and stem files, as all were read.

@@ -2,25 +2,12 @@
 ghost use Rattle.buckfleet_engine_files.specs.Reading.{apt_with};
 ghost use Rattle.buckfleet_engine_cross_check.specs.Serving.{ChecksFiles, RunsCheck};
 
-use crate::running::{CrossCheck, run_check_with};
+use crate::running::run_check_with;
 use buckfleet_engine_files::{EngineFault, Onlooker, Open, SeveralThreads, Workers, open_inputs};
+use buckfleet_tasks::{CheckTask, CrossCheck};
 use std::alloc::Global;
 use std::io;
 use std::thread::Threads;
-
-/// The arguments of a check that ties a journal to stem files or a rule.
-#[derive(Drop)]
-pub struct CheckTask<'a> {
-    /// The rule and the numbers that the journal is checked by.
-    pub by: CrossCheck,
-    /// The name of the instruction file.
-    pub apt: &'a str,
-    /// The name of the journal, and then those of the stem files, one for each harvester.
-    pub files: Vec<&'a str>,
-    /// How many threads may read the journal, or look for outvalued cuts, at once; if nothing is said, as many as
-    /// the machine has.
-    pub threads: Option<u8>,
-}
 
 /// Checks the journal, which is the first of the files behind the instruction file.
 fn check_opened<T: Workers, R: io::Read, W: io::Write>(

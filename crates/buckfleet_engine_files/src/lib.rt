@@ -17,7 +17,7 @@ pub use both::{Both, lawful_text, read_own, read_postings, replay_both, unlawful
 pub use check_fault::CheckFault;
 pub use disk::{Desk, Disk, Renewed, has_folder_input, is_standard};
 pub use fault::{EngineFault, status};
-pub use onlooker::{HasStem, Nobody, Onlooker};
+pub use onlooker::{HasStem, Nobody, Onlooker, RunOnlooker};
 pub use opening::{Make, Open, make_journal, open_both, open_inputs};
 pub use reading::{
     instruction_in, read_file, read_instruction, read_instruction_with, read_stems, stems_in,

@@ -14,8 +14,8 @@ use Rattle.buck_book_journal.specs.declared.replay_fault.ReplayFault.{ReplayFaul
 use Rattle.buck_book_journal.specs.Several.{postings_of}
 use Rattle.buckfleet_engine_files.specs.declared.fault.EngineFault.{EngineFault}
 use Rattle.buckfleet_engine_files.specs.declared.fault.EngineFault.TheVariants.{Memory, Journal, JournalOf, Replay, ReplayOf}
-use Rattle.buckfleet_engine_page.specs.declared.asked.Shown.{Shown}
-use Rattle.buckfleet_engine_page.specs.declared.asked.Shown.TheVariants.{Page, Table}
+use Rattle.buckfleet_tasks.specs.declared.journals.Shown.{Shown}
+use Rattle.buckfleet_tasks.specs.declared.journals.Shown.TheVariants.{Page, Table}
 use Rattle.buckfleet_engine_files.specs.Reading.{IsFileFault, ReadsApt, Says}
 use Rattle.buckfleet_engine_files.specs.Several.{AreLawful, HaveJournals, IsFirstUnlawful, IsJournalsFault, IsSeveralFault, journal_fault, replay_fault}
 use Rattle.buckfleet_engine_page.specs.Several.{HavePage, ShowsSeveral}

@@ -2,9 +2,9 @@
 use Rattle.std.specs.Prelude.{◌≡◌, ℕ, List, map, Option, Result, Ok, Err}
 use Rattle.std.specs.Io.KnownBytes.{Keeps}
 use Rattle.buckfleet_engine_files.specs.declared.fault.EngineFault.{EngineFault}
-use Rattle.buckfleet_engine_page.specs.declared.asked.Shown.{Shown}
-use Rattle.buckfleet_engine_page.specs.declared.asked.Shown.TheVariants.{Page, Table}
-use Rattle.buckfleet_engine_page.specs.declared.asked.ViewTask.{ViewTask}
+use Rattle.buckfleet_tasks.specs.declared.journals.Shown.{Shown}
+use Rattle.buckfleet_tasks.specs.declared.journals.Shown.TheVariants.{Page, Table}
+use Rattle.buckfleet_tasks.specs.declared.journals.ViewTask.{ViewTask}
 use Rattle.buckfleet_engine_files.specs.Opening.{AnswersInputs}
 use Rattle.buckfleet_engine_files.specs.Reading.{ReadsApt, apt_with}
 use Rattle.buckfleet_engine_page.specs.Several.{ShowsPages, ShowsTables}

@@ -10,7 +10,6 @@ ghost use Rattle.buck_book_postings.specs.declared.posting.TheConstants.{MOST_PO
 ghost use Rattle.buckfleet_engine_files.specs.Reading.{apt_with};
 ghost use Rattle.buckfleet_engine_page.specs.Showing.{RunsView, Shows};
 
-use crate::asked::{Shown, ViewTask};
 use crate::viewing::{page_of, table_in, write_page, write_table};
 use buck_book_journal::ReplayFault;
 use buck_page::{Files, fault_page};
@@ -20,6 +19,7 @@ use buckfleet_engine_files::{
     Among, EngineFault, FirstUnlawful as Unlawful, Journals as Several, Onlooker, Open,
     SeveralThreads, Workers, open_inputs, read_several, replay_several, unlawful_among,
 };
+use buckfleet_tasks::{Shown, ViewTask};
 use std::alloc::Global;
 use std::io;
 use std::thread::Threads;

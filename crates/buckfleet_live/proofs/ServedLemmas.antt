@@ -4,7 +4,7 @@ use Rattle.std.specs.Result.{IsErrAnd}
 use Rattle.buckfleet_engine_files.specs.Reading.{IsAptFault}
 use Rattle.buckfleet_engine_files.specs.Lent.{of_made}
 use Rattle.buckfleet_engine_files.proofs.Made.{nothing_made}
-use Rattle.buckfleet_live.specs.declared.serving.LiveTask.{LiveTask}
+use Rattle.buckfleet_tasks.specs.declared.harvests.LiveTask.{LiveTask}
 
 -- the instruction is refused, or memory runs out
 pub unopened : {M : Type 0} (contents : M → Option (List ℕ)) (journal : Option M) (task : LiveTask)

@@ -17,7 +17,7 @@ use Rattle.buckfleet_engine_files.specs.Written.{AppendsSome}
 use Rattle.buckfleet_engine_files.specs.Ruled.{FollowsRule}
 use Rattle.buck_book_cutter.specs.Cut.{opening}
 use Rattle.buckfleet_live.specs.Live.{IsLiveRun}
-use Rattle.buckfleet_live.specs.declared.serving.LiveTask.{LiveTask}
+use Rattle.buckfleet_tasks.specs.declared.harvests.LiveTask.{LiveTask}
 
 -- the journal of a history was written, if one is asked for; or a part of it, or nothing if memory ran out
 abbrev pub KeepsJournal : OfWriter → HistoryParts → Result (Unit {0}) EngineFault → Type 0

@@ -13,7 +13,8 @@ mod serving;
 mod slots;
 
 pub use buck_apt::Settings;
+pub use buckfleet_tasks::LiveTask;
 pub use live::Live;
 pub use replies::Replies;
 pub use request::{Asked, Request, read_request};
-pub use serving::{LiveTask, serve_live};
+pub use serving::serve_live;

@@ -9,28 +9,16 @@ ghost use Rattle.buckfleet_live.specs.Serving.{AnswersLive, KeepsJournal, RunsLi
 
 use crate::live::Live;
 use crate::replies::Replies;
-use buck_apt::{Instruction, Settings};
-use buck_rule::{NamedRule, Rule, Standing};
+use buck_apt::Instruction;
+use buck_rule::{Rule, Standing};
 use buck_stem::Stem;
 use buckfleet_engine_files::{
     EngineFault, Make, Onlooker, Open, make_journal, open_inputs, read_instruction, write_text,
 };
+use buckfleet_tasks::LiveTask;
 use std::alloc::Global;
 use std::io;
 use std::sync::Arc;
-
-/// The arguments of a run of requests.
-#[derive(Drop)]
-pub struct LiveTask<'a> {
-    /// How prices follow what was cut.
-    pub rule: NamedRule,
-    /// The numbers that are put in the place of the instruction's own.
-    pub settings: Settings,
-    /// The name of the file that the journal goes into, if one is wanted.
-    pub journal: Option<&'a str>,
-    /// The name of the instruction file.
-    pub apt: &'a str,
-}
 
 fn write_journal<F: Drop, J: io::Write>(
     alloc: Global,

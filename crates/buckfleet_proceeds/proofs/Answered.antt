@@ -21,7 +21,7 @@ use Rattle.buckfleet_terms_files.specs.declared.fault.TermsFault.TheVariants.{Ru
 use Rattle.buckfleet_terms_files.specs.Own.{HasShapeOf}
 use Rattle.buckfleet_terms_files.specs.Reading.{IsOwnFileFault}
 use Rattle.buckfleet_proceeds.specs.declared.appraisal.Appraisal.{Appraisal}
-use Rattle.buckfleet_proceeds.specs.declared.task.CompareTask.{CompareTask}
+use Rattle.buckfleet_tasks.specs.declared.journals.CompareTask.{CompareTask}
 use Rattle.buckfleet_proceeds.specs.Appraisal.{IsAppraisal}
 use Rattle.buckfleet_proceeds.specs.Comparison.{SaysTwo}
 use Rattle.buckfleet_proceeds.specs.Text.{appraisal_text}

@@ -18,7 +18,7 @@ use Rattle.buckfleet_terms_files.specs.declared.fault.TermsFault.TheVariants.{Ru
 use Rattle.buckfleet_engine_files.specs.Opening.{AnswersInputs}
 use Rattle.buckfleet_terms_files.specs.Reading.{AnswersLast, IsOwnFileFault}
 use Rattle.buckfleet_terms_files.specs.Telling.{WritesTerms}
-use Rattle.buckfleet_proceeds.specs.declared.task.CompareTask.{CompareTask}
+use Rattle.buckfleet_tasks.specs.declared.journals.CompareTask.{CompareTask}
 use Rattle.buckfleet_proceeds.specs.Comparison.{IsCompareFault}
 use Rattle.buckfleet_proceeds.specs.declared.opened.Opened.{Opened}
 use Rattle.buckfleet_proceeds.specs.Serving.{AnswersAppraise, AnswersCompare, AnswersFiles, IsAppraiseFault}

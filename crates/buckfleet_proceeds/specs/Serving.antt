@@ -19,8 +19,8 @@ use Rattle.buckfleet_terms_files.specs.Reading.{AnswersLast, IsOwnFileFault}
 use Rattle.buckfleet_terms_files.specs.Telling.{WritesTerms}
 use Rattle.buckfleet_proceeds.specs.declared.appraisal.Appraisal.{Appraisal}
 use Rattle.buckfleet_proceeds.specs.declared.opened.Opened.{Opened}
-use Rattle.buckfleet_proceeds.specs.declared.task.AppraiseTask.{AppraiseTask}
-use Rattle.buckfleet_proceeds.specs.declared.task.CompareTask.{CompareTask}
+use Rattle.buckfleet_tasks.specs.declared.journals.AppraiseTask.{AppraiseTask}
+use Rattle.buckfleet_tasks.specs.declared.journals.CompareTask.{CompareTask}
 use Rattle.buckfleet_proceeds.specs.Appraisal.{IsAppraisal}
 use Rattle.buckfleet_proceeds.specs.Text.{appraisal_text}
 use Rattle.buckfleet_proceeds.specs.Comparison.{AreBothLawful, IsCompareFault, SaysTwo}

@@ -12,7 +12,6 @@ ghost use Rattle.buckfleet_engine_files.specs.Written.{WritesText};
 ghost use Rattle.buckfleet_proceeds.specs.Serving.{AnswersCompare};
 
 use crate::compared::{Run, comparison_text};
-use crate::task::CompareTask;
 use buck_apt::{Instruction, Settings};
 use buck_book_journal::{Journal, ReplayFault};
 use buck_dp::Planner;
@@ -20,6 +19,7 @@ use buck_page_figures::{figures_of, grade_free_of};
 use buck_record::Memory;
 use buck_value::Sheet;
 use buckfleet_engine_files::{EngineFault, Workers, read_several, write_text};
+use buckfleet_tasks::CompareTask;
 use std::alloc::Global;
 use std::io;
 use std::slice::from_ref;

@@ -19,13 +19,12 @@ mod paid;
 mod paying;
 mod replayed;
 mod serving;
-mod task;
 
 pub use appraisal::{Appraisal, appraise};
 pub use appraised::run_appraise;
+pub use buckfleet_tasks::{AppraiseTask, CompareTask};
 pub use buckfleet_terms_files::TermsFault;
 pub use comparing::run_compare;
 pub use opened::Opened;
 pub use paid::{Account, Paid};
 pub use serving::{serve_appraise, serve_compare};
-pub use task::{AppraiseTask, CompareTask};

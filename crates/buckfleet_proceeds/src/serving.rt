@@ -5,8 +5,8 @@ ghost use Rattle.buckfleet_proceeds.specs.Serving.{AnswersFiles, RunsAppraise, R
 use crate::appraised::run_appraise;
 use crate::comparing::run_compare;
 use crate::opened::Opened;
-use crate::task::{AppraiseTask, CompareTask};
 use buckfleet_engine_files::{EngineFault, Onlooker, Open, SeveralThreads, open_inputs};
+use buckfleet_tasks::{AppraiseTask, CompareTask};
 use buckfleet_terms_files::{TermsFault, open_last};
 use std::alloc::Global;
 use std::io;

@@ -12,7 +12,7 @@ use Rattle.buck_stem.specs.declared.stem.Stem.{Stem}
 use Rattle.buck_book_postings.specs.History.{HistoryParts}
 use Rattle.buck_rule.specs.declared.named.NamedRule.{NamedRule}
 use Rattle.buck_rule.specs.Named.{rule_name}
-use Rattle.buckfleet_trial_sweep.specs.declared.combination.Combination.{Combination}
+use Rattle.buckfleet_tasks.specs.declared.combination.Combination.{Combination}
 use Rattle.buckfleet_trial_sweep.specs.Runs.{IsRunLine}
 use Rattle.buckfleet_trial_sweep.specs.Sweep.{AreLines}
 use Rattle.buckfleet_trial_sweep.specs.Table.{IsLine, apart_of, back_of, cells, degree_heads, front_of, head_line, line_of, pair_heads, volumes_of, wholes_of}

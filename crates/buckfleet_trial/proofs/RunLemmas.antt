@@ -12,7 +12,7 @@ use Rattle.buck_book_postings.specs.Degree.{IsDegreeBy}
 use Rattle.buck_book_postings.specs.History.{HistoryParts}
 use Rattle.buck_book_postings.specs.Posting.{targets_of}
 use Rattle.buck_page_figures.specs.Figures.{at_base_in}
-use Rattle.buckfleet_trial_sweep.specs.declared.combination.Combination.{Combination}
+use Rattle.buckfleet_tasks.specs.declared.combination.Combination.{Combination}
 use Rattle.buckfleet_trial_sweep.specs.Runs.{HasCut}
 use Rattle.buckfleet_trial_sweep.specs.Table.{IsLeast}
 use Rattle.buckfleet_trial.specs.declared.trial.Drawn.{Drawn}

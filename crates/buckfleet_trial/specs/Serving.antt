@@ -6,11 +6,11 @@ use Rattle.buckfleet_engine_files.specs.declared.fault.EngineFault.{EngineFault}
 use Rattle.buckfleet_terms_files.specs.declared.fault.TermsFault.{TermsFault}
 use Rattle.buckfleet_terms_files.specs.declared.fault.TermsFault.TheVariants.{Run}
 use Rattle.buckfleet_trial.specs.declared.reading.Opened.{Opened}
-use Rattle.buckfleet_trial.specs.declared.task.TrialTask.{TrialTask}
+use Rattle.buckfleet_tasks.specs.declared.trials.TrialTask.{TrialTask}
 use Rattle.buckfleet_trial.specs.Inputs.{AnswersFiles, held_with}
 use Rattle.buckfleet_terms_files.specs.Telling.{WritesTerms}
-use Rattle.buckfleet_trial.specs.declared.task.TuneTask.{TuneTask}
-use Rattle.buckfleet_trial.specs.declared.task.WishesTask.{WishesTask}
+use Rattle.buckfleet_tasks.specs.declared.trials.TuneTask.{TuneTask}
+use Rattle.buckfleet_tasks.specs.declared.trials.WishesTask.{WishesTask}
 use Rattle.buckfleet_trial.specs.Trial.{AnswersTrial}
 use Rattle.buckfleet_trial.specs.Tune.{AnswersTune}
 use Rattle.buckfleet_trial.specs.Wishes.{AnswersWishes}

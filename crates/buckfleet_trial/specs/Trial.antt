@@ -10,7 +10,7 @@ use Rattle.buck_stem.specs.declared.stem.Stem.{Stem}
 use Rattle.buck_book_postings.specs.Degree.{IsDegree}
 use Rattle.buck_book_postings.specs.History.{HistoryParts}
 use Rattle.buck_page_figures.specs.Figures.{at_base_in, base_sheet}
-use Rattle.buckfleet_trial_sweep.specs.declared.combination.Combination.{Combination}
+use Rattle.buckfleet_tasks.specs.declared.combination.Combination.{Combination}
 use Rattle.buckfleet_trial_sweep.specs.Runs.{HasCut, IsRunLine}
 use Rattle.buckfleet_trial_sweep.specs.Sweep.{AreLines}
 use Rattle.buckfleet_trial_sweep.specs.Table.{IsLeast, head_line, rate_of}

@@ -1,12 +1,11 @@
 //! Whole runs of trials: the files of a task, and its table.
 ghost use Rattle.buckfleet_trial.specs.Serving.{RunsTrial, RunsWishes};
 
-use crate::onlooker::RunOnlooker;
 use crate::reading::open_files;
-use crate::task::{TrialTask, WishesTask};
 use crate::trial::run_trial_in_parts;
 use crate::wishes::run_wishes_in_parts;
-use buckfleet_engine_files::Open;
+use buckfleet_engine_files::{Open, RunOnlooker};
+use buckfleet_tasks::{TrialTask, WishesTask};
 use buckfleet_terms_files::TermsFault;
 use std::alloc::Global;
 use std::io;

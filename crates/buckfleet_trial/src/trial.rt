@@ -11,19 +11,18 @@ ghost use Rattle.buckfleet_trial.specs.Lines.{AreDrawnFor, AreLinesFor, all_draw
 ghost use Rattle.buckfleet_trial.specs.inner.Lines.{AreRun, IsDrawnPart, IsLinesPart, runs_of};
 
 use crate::light::{base_worth, best_worth, cut_by_name, degrees_of, least_of};
-use crate::onlooker::RunOnlooker;
 use crate::parts::{joined, size_of};
 use crate::reading::{Opened, of_run, read_files};
 use crate::table::{put_first, put_line};
-use crate::task::TrialTask;
 use buck_record::Memory;
 use buckfleet_engine_files::{
-    EngineFault, OneThread, SeveralThreads, number_of_threads, write_text,
+    EngineFault, OneThread, RunOnlooker, SeveralThreads, number_of_threads, write_text,
 };
 use buckfleet_engine_input::Input;
+use buckfleet_tasks::{Combination, TrialTask};
 use buckfleet_terms_files::TermsFault;
 use buckfleet_trial_draws::{Draws, order_from, starts_of};
-use buckfleet_trial_sweep::{Combination, run_line};
+use buckfleet_trial_sweep::run_line;
 use std::alloc::Global;
 use std::sync::Arc;
 use std::thread::Threads;

@@ -13,7 +13,6 @@ ghost use Rattle.buckfleet_trial.specs.Running.{AnswersOver};
 
 use crate::light::cut_by_name;
 use crate::reading::{Opened, of_run, open_files, read_files};
-use crate::task::TuneTask;
 use buck_apt::instruction_text;
 use buck_book_postings::{Parts, Posting};
 use buck_page_figures::number_at;
@@ -23,6 +22,7 @@ use buck_stem::Stem;
 use buck_value::Sheet;
 use buckfleet_engine_files::{EngineFault, Onlooker, Open, SeveralThreads, Workers, write_text};
 use buckfleet_engine_input::Input;
+use buckfleet_tasks::TuneTask;
 use buckfleet_terms_files::TermsFault;
 use std::alloc::Global;
 use std::io;

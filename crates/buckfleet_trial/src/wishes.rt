@@ -16,11 +16,9 @@ ghost use Rattle.buckfleet_trial.specs.inner.Asking.{AreAsked, AreBelow, AreDraw
 
 use crate::asking::Asking;
 use crate::light::{cut_by_name, targets_of};
-use crate::onlooker::RunOnlooker;
 use crate::outcome::{Outcome, Runs};
 use crate::parts::{joined, size_of};
 use crate::reading::{Opened, of_run, read_files};
-use crate::task::WishesTask;
 use crate::trial::all_starts;
 use crate::wish::{Told, Wish, put_degree, put_worth, tell_wish};
 use buck_apt::Instruction;
@@ -28,9 +26,10 @@ use buck_record::Memory;
 use buck_rule::NamedRule;
 use buck_stem::Stem;
 use buckfleet_engine_files::{
-    EngineFault, OneThread, SeveralThreads, number_of_threads, write_text,
+    EngineFault, OneThread, RunOnlooker, SeveralThreads, number_of_threads, write_text,
 };
 use buckfleet_engine_input::Input;
+use buckfleet_tasks::WishesTask;
 use buckfleet_terms_files::TermsFault;
 use std::alloc::Global;
 use std::cmp::Ordering;

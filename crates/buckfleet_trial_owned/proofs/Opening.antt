@@ -11,7 +11,7 @@ use Rattle.buckfleet_terms_files.specs.Reading.{AnswersLast, IsOwnFileFault}
 use Rattle.buckfleet_terms_files.specs.Telling.{WritesTerms}
 use Rattle.buckfleet_trial_owned.specs.declared.owned.OwnedFiles.{OwnedFiles}
 use Rattle.buckfleet_trial.specs.declared.reading.Opened.{Opened}
-use Rattle.buckfleet_trial_owned.specs.declared.task.OwnedTask.{OwnedTask}
+use Rattle.buckfleet_tasks.specs.declared.trials.OwnedTask.{OwnedTask}
 use Rattle.buckfleet_trial.specs.Inputs.{AnswersFiles}
 use Rattle.buckfleet_trial_owned.specs.Owned.{AnswersOwnedFiles, RunsOwned, files_before}
 use Rattle.buckfleet_trial.proofs.Ended.{IsNoWriteTerms, no_terms}

@@ -18,7 +18,7 @@ use Rattle.buck_page_cells.specs.Cells.{spread_cells}
 use Rattle.buck_page_cells.specs.Spread.{IsSpread}
 use Rattle.buck_page_figures.specs.Journals.{postings_of}
 use Rattle.buck_book_journal.specs.Journal.{JournalParts, history_of}
-use Rattle.buckfleet_trial_sweep.specs.declared.combination.Combination.{Combination}
+use Rattle.buckfleet_tasks.specs.declared.combination.Combination.{Combination}
 use Rattle.buckfleet_trial_sweep.specs.Runs.{IsRunLine}
 use Rattle.buckfleet_trial_sweep.specs.Sweep.{AreLines}
 use Rattle.buckfleet_trial_sweep.specs.Table.{head_line}

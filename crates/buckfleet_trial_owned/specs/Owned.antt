@@ -19,7 +19,7 @@ use Rattle.buckfleet_engine_files.specs.declared.fault.EngineFault.{EngineFault}
 use Rattle.buckfleet_engine_files.specs.Reading.{Says}
 use Rattle.buckfleet_proceeds.specs.declared.appraisal.Appraisal.{Appraisal}
 use Rattle.buckfleet_proceeds.specs.Appraisal.{IsAppraisal}
-use Rattle.buckfleet_trial_sweep.specs.declared.combination.Combination.{Combination}
+use Rattle.buckfleet_tasks.specs.declared.combination.Combination.{Combination}
 use Rattle.buckfleet_trial_sweep.specs.Runs.{HasCut}
 use Rattle.buckfleet_trial_sweep.specs.Sweep.{AreLines}
 use Rattle.buckfleet_trial_sweep.specs.Table.{head_line, rate_of}
@@ -32,8 +32,8 @@ use Rattle.buck_fleet_round_robin.specs.Turn.{stems_in_all}
 use Rattle.buckfleet_trial_owned.specs.declared.outcome.OwnRun.{OwnRun}
 use Rattle.buckfleet_trial_owned.specs.declared.owned.OwnedFiles.{OwnedFiles}
 use Rattle.buckfleet_trial.specs.declared.reading.Opened.{Opened}
-use Rattle.buckfleet_trial_owned.specs.declared.task.OwnedTask.{OwnedTask}
-use Rattle.buckfleet_trial.specs.declared.task.TrialTask.{TrialTask}
+use Rattle.buckfleet_tasks.specs.declared.trials.OwnedTask.{OwnedTask}
+use Rattle.buckfleet_tasks.specs.declared.trials.TrialTask.{TrialTask}
 use Rattle.buckfleet_trial.specs.Inputs.{AnswersFiles, IsInputFault, SaysInput, held_with}
 use Rattle.buckfleet_trial.specs.Trial.{AreSpread, IsBestFor, IsTrialLine, drawn_head, starts_of}
 use Rattle.buckfleet_trial.specs.Wishes.{AreOrdered}

@@ -6,7 +6,6 @@
 
 mod outcome;
 mod owned;
-mod task;
 
+pub use buckfleet_tasks::OwnedTask;
 pub use owned::{OwnedFiles, run_owned, serve_owned};
-pub use task::OwnedTask;

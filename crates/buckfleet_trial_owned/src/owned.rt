@@ -19,7 +19,6 @@ ghost use Rattle.buckfleet_trial_owned.specs.inner.Owned.{AreTails, IsFirstLine,
 ghost use Rattle.buckfleet_trial.specs.Running.{AnswersOver};
 
 use crate::outcome::OwnRun;
-use crate::task::OwnedTask;
 use buck_apt::Instruction;
 use buck_book_journal::Journal;
 use buck_book_postings::Parts;
@@ -31,12 +30,12 @@ use buckfleet_engine_files::{
 };
 use buckfleet_engine_input::Input;
 use buckfleet_proceeds::appraise;
+use buckfleet_tasks::{Combination, OwnedTask, TrialTask};
 use buckfleet_terms_files::{TermsFault, open_last, read_own};
 use buckfleet_trial::{
-    Drawn, Opened, TrialTask, all_starts, cost_of, cut_in_order, joined, made_in_parts, of_run,
-    open_files, open_line, put_first, put_line, read_files, size_of,
+    Drawn, Opened, all_starts, cost_of, cut_in_order, joined, made_in_parts, of_run, open_files,
+    open_line, put_first, put_line, read_files, size_of,
 };
-use buckfleet_trial_sweep::Combination;
 use std::alloc::Global;
 use std::sync::Arc;
 use std::thread::Threads;

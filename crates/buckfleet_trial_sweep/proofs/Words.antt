@@ -9,7 +9,7 @@ pub use Rattle.buck_page_figures.specs.declared.degrees.Degrees.{Degrees}
 pub use Rattle.buckfleet_trial_sweep.specs.Table.{Assorted, IsLeast, IsLine, wholes_of, apart_of, cells, volumes_of, degree_heads, pair_heads}
 pub use Rattle.buckfleet_trial_sweep.specs.inner.Lines.{AreAllDegrees, line_by, versions_of, lesser, AnswersTable, IsPart}
 pub use Rattle.std.proofs.lemmas.List.{map-append, take_more, take_all, length-map}
-pub use Rattle.buckfleet_trial_sweep.specs.declared.combination.Combination.{Combination}
+pub use Rattle.buckfleet_tasks.specs.declared.combination.Combination.{Combination}
 pub use Rattle.buckfleet_trial_sweep.specs.Sweep.{AnswersSweep, IsLineOver, IsSweepRun, IsTable, AreLines}
 pub use Rattle.buckfleet_trial_sweep.specs.Runs.{IsRunLine}
 pub use Rattle.std.specs.Prelude.{slice_get}

@@ -1,4 +1,3 @@
-pub mod Combinations
 pub mod Table
 pub mod Sweep
 pub mod Runs

@@ -10,7 +10,7 @@ use Rattle.buckfleet_engine_files.specs.declared.fault.EngineFault.{EngineFault}
 use Rattle.buckfleet_engine_files.specs.declared.fault.EngineFault.TheVariants.{Full}
 use Rattle.buckfleet_engine_input.specs.Harvest.{AreFirsts, IsCuttingFault}
 use Rattle.buckfleet_engine_files.specs.Ruled.{FollowsRule}
-use Rattle.buckfleet_trial_sweep.specs.declared.combination.Combination.{Combination}
+use Rattle.buckfleet_tasks.specs.declared.combination.Combination.{Combination}
 use Rattle.buckfleet_trial_sweep.specs.Table.{IsLine}
 
 -- a lawful history of at most 1,000,000 postings, each cutting the first of the best ones, in which lists were cut in

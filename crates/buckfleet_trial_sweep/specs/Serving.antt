@@ -3,8 +3,8 @@ use Rattle.std.specs.Prelude.{◌≡◌, ℕ, List, map, Option, Result, Ok, Err
 use Rattle.std.specs.Io.KnownBytes.{Keeps}
 use Rattle.buckfleet_engine_files.specs.declared.fault.EngineFault.{EngineFault}
 use Rattle.buckfleet_engine_files.specs.Opening.{AnswersInputs}
-use Rattle.buckfleet_trial_sweep.specs.declared.combination.Combination.{Combination}
-use Rattle.buckfleet_trial_sweep.specs.declared.serving.SweepTask.{SweepTask}
+use Rattle.buckfleet_tasks.specs.declared.combination.Combination.{Combination}
+use Rattle.buckfleet_tasks.specs.declared.trials.SweepTask.{SweepTask}
 use Rattle.buckfleet_trial_sweep.specs.Sweep.{IsSweepRun}
 
 -- a run over the files that were opened; if one can't be, nothing is written

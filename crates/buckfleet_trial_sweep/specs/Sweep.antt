@@ -10,7 +10,7 @@ use Rattle.buckfleet_engine_files.specs.Reading.{Says, apt_with}
 use Rattle.buckfleet_engine_input.specs.Harvest.{AreNoSeats, HaveTooMany, IsFleetFault, IsHarvest}
 use Rattle.buckfleet_engine_files.specs.Ruled.{FollowsRule}
 use Rattle.buckfleet_engine_files.specs.Written.{WritesText}
-use Rattle.buckfleet_trial_sweep.specs.declared.combination.Combination.{Combination}
+use Rattle.buckfleet_tasks.specs.declared.combination.Combination.{Combination}
 use Rattle.buckfleet_trial_sweep.specs.Table.{IsLine, head_line}
 
 -- the line of a combination: that of a history in which the stems of the files were cut in turn, by the instruction

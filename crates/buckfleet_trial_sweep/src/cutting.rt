@@ -7,7 +7,6 @@ ghost use Rattle.buckfleet_trial_sweep.specs.Runs.{HasCut, IsRunLine, IsStop};
 ghost use Rattle.buckfleet_trial_sweep.specs.inner.Lines.{IsPart};
 ghost use Rattle.buck_book_postings.specs.declared.posting.TheConstants.{MOST_POSTINGS};
 
-use crate::combination::Combination;
 use crate::figures::line_of;
 use buck_apt::Instruction;
 use buck_book_journal::Journal;
@@ -19,6 +18,7 @@ use buck_stem::Stem;
 use buck_value::Sheet;
 use buckfleet_engine_files::EngineFault;
 use buckfleet_engine_input::Input;
+use buckfleet_tasks::Combination;
 use std::alloc::Global;
 use std::sync::Arc;
 use std::thread;

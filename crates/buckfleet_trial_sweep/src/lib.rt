@@ -5,7 +5,6 @@
 //! [`SweepTask`].
 #![tactic(auto)]
 
-mod combination;
 mod cutting;
 mod figures;
 mod running;
@@ -13,8 +12,8 @@ mod serving;
 mod table;
 
 pub use buck_apt::Settings;
-pub use combination::{Combination, combinations};
+pub use buckfleet_tasks::{Combination, SweepTask, combinations};
 pub use cutting::run_line;
 pub use running::{run_sweep, run_sweep_in_parts};
-pub use serving::{SweepTask, serve_sweep};
+pub use serving::serve_sweep;
 pub use table::put_head;

@@ -7,14 +7,13 @@ ghost use Rattle.buckfleet_engine_input.specs.Harvest.{IsCuttingFault};
 ghost use Rattle.buckfleet_trial_sweep.specs.Sweep.{IsSweepRun};
 ghost use Rattle.buckfleet_trial_sweep.specs.inner.Lines.{AnswersTable, IsPart};
 
-use crate::combination::Combination;
 use crate::cutting::{lines_in_parts, lines_of};
-use crate::serving::SweepTask;
 use crate::table::put_head;
 use buckfleet_engine_files::{
     EngineFault, OneThread, Onlooker, SeveralThreads, number_of_threads, write_text,
 };
 use buckfleet_engine_input::{Input, read_input};
+use buckfleet_tasks::{Combination, SweepTask};
 use std::alloc::Global;
 use std::io;
 use std::thread::Threads;

@@ -2,25 +2,12 @@
 ghost use Rattle.std.specs.Prelude.{◌≡◌};
 ghost use Rattle.buckfleet_trial_sweep.specs.Serving.{RunsSweep};
 
-use crate::combination::Combination;
 use crate::running::run_sweep_in_parts;
 use buckfleet_engine_files::{EngineFault, Onlooker, Open, open_inputs};
+use buckfleet_tasks::SweepTask;
 use std::alloc::Global;
 use std::io;
 use std::thread::Threads;
-
-/// The arguments of a sweep.
-#[derive(Drop)]
-pub struct SweepTask<'a> {
-    /// The runs, in the order of their lines.
-    pub combinations: Vec<Combination>,
-    /// The name of the instruction file.
-    pub apt: &'a str,
-    /// The names of the stem files, one for each harvester.
-    pub stms: Vec<&'a str>,
-    /// How many runs may be done at once, in threads of their own; if nothing is said, as many as the machine has.
-    pub threads: Option<u8>,
-}
 
 /// Makes the table that a task asks for over the files of its names, in several threads at once.
 ///

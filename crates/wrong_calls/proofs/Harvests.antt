@@ -5,7 +5,7 @@ use Rattle.std.proofs.lemmas.List.{length-append}
 use Rattle.buck_apt.specs.Apt.{apt_of}
 use Rattle.buck_apt.specs.Instruction.{InstructionParts}
 use Rattle.buck_apt.specs.Priced.{with_prices}
-use Rattle.buckfleet_trial_sweep.specs.declared.combination.Combination.{Combination}
+use Rattle.buckfleet_tasks.specs.declared.combination.Combination.{Combination}
 use Rattle.buckfleet_terms_files.specs.Targets.{HasTargets}
 use Rattle.buckfleet_trial.specs.Inputs.{HasWanted}
 use Rattle.buckfleet_trial.specs.Trial.{AnswersTrial, drawn_head, starts_of}

@@ -8,14 +8,14 @@ use Rattle.buck_apt.specs.Instruction.{InstructionParts}
 use Rattle.buck_apt.specs.Settings.{SettingsParts, with_settings}
 use Rattle.buck_rule.specs.declared.named.NamedRule.{NamedRule}
 use Rattle.buckfleet_engine_files.specs.declared.fault.EngineFault.{EngineFault}
-use Rattle.buckfleet_engine_cross_check.specs.declared.running.CrossCheck.{CrossCheck}
+use Rattle.buckfleet_tasks.specs.declared.journals.CrossCheck.{CrossCheck}
 use Rattle.buckfleet_engine_files.specs.Faults.{memory_line, status_of, status_or}
 use Rattle.buckfleet_engine_files.specs.Reading.{apt_with}
 use Rattle.buckfleet_engine_cross_check.specs.Answers.{AnswersCheckWith}
 use Rattle.buckfleet_terms_files.specs.declared.fault.TermsFault.{TermsFault}
 use Rattle.buckfleet_terms_files.specs.declared.fault.TermsFault.TheVariants.{Run as OfRun, Targets, Own}
 use Rattle.buckfleet_terms_files.specs.Faults.{terms_status}
-use Rattle.buckfleet_proceeds.specs.declared.task.CompareTask.{CompareTask}
+use Rattle.buckfleet_tasks.specs.declared.journals.CompareTask.{CompareTask}
 use Rattle.buckfleet_proceeds.specs.Serving.{AnswersAppraise}
 use Rattle.buck_c_calls.specs.declared.asked.Numbers.{Numbers}
 use Rattle.buck_c_calls.specs.declared.asked.Pair.{Pair}

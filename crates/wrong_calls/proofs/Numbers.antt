@@ -5,7 +5,7 @@ use Rattle.std.specs.List.{AllZip}
 use Rattle.std.proofs.lemmas.Option.{none-some}
 use Rattle.buck_apt.specs.Instruction.{IsWithin}
 use Rattle.buck_apt.specs.Settings.{SettingsParts}
-use Rattle.buckfleet_trial_sweep.specs.declared.combination.Combination.{Combination}
+use Rattle.buckfleet_tasks.specs.declared.combination.Combination.{Combination}
 use Rattle.buck_c_calls.specs.declared.asked.Numbers.{Numbers}
 use Rattle.buck_c_calls.specs.declared.asked.Run.{Run}
 use Rattle.buck_c_calls.specs.Asked.{AreSettings, IsCombination, told}

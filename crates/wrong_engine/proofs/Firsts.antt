@@ -3,7 +3,7 @@ use Rattle.std.proofs.Common.{◌≡◌, ◌≢◌, ℕ, List, [], ◌++◌, Opt
 use Rattle.std.specs.Result.{is_ok}
 use Rattle.buck_book_postings.specs.History.{HistoryParts}
 use Rattle.buckfleet_engine_files.specs.declared.fault.EngineFault.{EngineFault}
-use Rattle.buckfleet_engine.specs.declared.fleet.serving.Order.{Order}
+use Rattle.buckfleet_tasks.specs.declared.harvests.Order.{Order}
 use Rattle.buckfleet_engine_files.specs.Reading.{ReadsApt}
 use Rattle.buckfleet_engine_files.specs.Lent.{OfWriter}
 use Rattle.buckfleet_engine.specs.fleet.Running.{IsFleetRun}

@@ -5,8 +5,8 @@ use Rattle.buck_book_postings.specs.History.{IsLawful}
 use Rattle.buck_book_journal.specs.Journal.{JournalParts, history_of}
 use Rattle.buck_book_text.specs.reading.Journal.{journal_of}
 use Rattle.buckfleet_engine_files.specs.declared.fault.EngineFault.{EngineFault}
-use Rattle.buckfleet_engine_page.specs.declared.asked.Shown.{Shown}
-use Rattle.buckfleet_engine_page.specs.declared.asked.Shown.TheVariants.{Page}
+use Rattle.buckfleet_tasks.specs.declared.journals.Shown.{Shown}
+use Rattle.buckfleet_tasks.specs.declared.journals.Shown.TheVariants.{Page}
 use Rattle.buckfleet_engine_files.specs.Opening.{AnswersInputs, OpensEach}
 use Rattle.buckfleet_engine_files.specs.Reading.{ReadsApt}
 use Rattle.buckfleet_engine.specs.run.Serving.{status_after}

@@ -11,8 +11,8 @@ use Rattle.buck_book_postings.specs.Replies.{stem_cut, replies_from, replies_of}
 use Rattle.buck_stem.specs.file.Stm.{stm_of}
 use Rattle.buckfleet_engine_files.specs.declared.fault.EngineFault.{EngineFault}
 use Rattle.buckfleet_engine_files.specs.declared.fault.EngineFault.TheVariants.{Full}
-use Rattle.buckfleet_engine.specs.declared.fleet.serving.Order.{Order}
-use Rattle.buckfleet_engine.specs.declared.fleet.serving.Order.TheVariants.{InTurn}
+use Rattle.buckfleet_tasks.specs.declared.harvests.Order.{Order}
+use Rattle.buckfleet_tasks.specs.declared.harvests.Order.TheVariants.{InTurn}
 use Rattle.buckfleet_engine_files.specs.Reading.{ReadsApt}
 use Rattle.buckfleet_engine_files.specs.Lent.{OfWriter}
 use Rattle.buckfleet_engine_files.specs.Listed.{stems_cut_by}

@@ -6,8 +6,8 @@ use Rattle.std.proofs.lemmas.List.{length-take}
 use Rattle.std.proofs.lemmas.Option.{none-some}
 use Rattle.buckfleet_engine_files.specs.declared.fault.EngineFault.{EngineFault}
 use Rattle.buckfleet_engine_files.specs.declared.fault.EngineFault.TheVariants.{Read, Write, Apt, Stm, Journal, JournalOf, Replay, ReplayOf, Check, Seats, Full, Memory, Close}
-use Rattle.buckfleet_engine_page.specs.declared.asked.Shown.{Shown}
-use Rattle.buckfleet_engine_page.specs.declared.asked.Shown.TheVariants.{Table}
+use Rattle.buckfleet_tasks.specs.declared.journals.Shown.{Shown}
+use Rattle.buckfleet_tasks.specs.declared.journals.Shown.TheVariants.{Table}
 use Rattle.buckfleet_engine_files.specs.Faults.{fault_line}
 use Rattle.buckfleet_engine_files.specs.Opening.{AnswersAll, AnswersInputs, OpensEach, OpensUpTo}
 use Rattle.buckfleet_engine_files.specs.Reading.{ReadsApt}

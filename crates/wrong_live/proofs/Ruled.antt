@@ -16,7 +16,7 @@ use Rattle.buckfleet_engine.specs.run.Serving.{status_after}
 use Rattle.buckfleet_engine_files.specs.Lent.{OfWriter}
 use Rattle.buckfleet_engine_files.specs.Ruled.{FollowsRule}
 use Rattle.buckfleet_engine_files.proofs.Statuses.{never_0}
-use Rattle.buckfleet_live.specs.declared.serving.LiveTask.{LiveTask}
+use Rattle.buckfleet_tasks.specs.declared.harvests.LiveTask.{LiveTask}
 use Rattle.buck_book_cutter.specs.Cut.{StaysByRule, opening}
 use Rattle.buckfleet_live.specs.Live.{IsLiveRun}
 use Rattle.buckfleet_live.specs.Serving.{AnswersLive, KeepsJournal, RunsApt, RunsLive, RunsMade}

@@ -7,7 +7,7 @@ use Rattle.buckfleet_engine_files.specs.declared.fault.EngineFault.{EngineFault}
 use Rattle.buckfleet_engine_files.specs.declared.fault.EngineFault.TheVariants.{Full}
 use Rattle.buck_rule.specs.declared.named.NamedRule.{NamedRule}
 use Rattle.buckfleet_engine_input.specs.Harvest.{HaveTooMany}
-use Rattle.buckfleet_trial_sweep.specs.declared.combination.Combination.{Combination}
+use Rattle.buckfleet_tasks.specs.declared.combination.Combination.{Combination}
 use Rattle.buckfleet_trial_sweep.specs.Sweep.{IsLineOver, IsSweepRun, IsTable}
 use Rattle.buckfleet_trial_sweep.specs.Table.{head_line}
 use Rattle.wrong_sweep.specs.Texts.{StandsIn, own_run}

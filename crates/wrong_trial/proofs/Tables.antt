@@ -17,7 +17,7 @@ use Rattle.buck_rule.specs.declared.named.NamedRule.{NamedRule}
 use Rattle.buckfleet_engine_files.specs.declared.fault.EngineFault.{EngineFault}
 use Rattle.buckfleet_engine_files.specs.declared.fault.EngineFault.TheVariants.{Full}
 use Rattle.buckfleet_engine_input.specs.Harvest.{HaveTooMany, IsFleetFault}
-use Rattle.buckfleet_trial_sweep.specs.declared.combination.Combination.{Combination}
+use Rattle.buckfleet_tasks.specs.declared.combination.Combination.{Combination}
 use Rattle.buckfleet_trial_sweep.specs.Sweep.{AreLines}
 use Rattle.buckfleet_trial_sweep.specs.Table.{IsLine}
 use Rattle.buckfleet_terms_files.specs.declared.fault.TermsFault.{TermsFault}

@@ -6,7 +6,7 @@ use Rattle.buckfleet_engine_files.specs.declared.fault.EngineFault.TheVariants.{
 use Rattle.buckfleet_terms_files.specs.declared.fault.TermsFault.{TermsFault}
 use Rattle.buckfleet_terms_files.specs.declared.fault.TermsFault.TheVariants.{Run}
 use Rattle.buckfleet_terms_files.specs.Faults.{no_memory, terms_line, terms_status}
-use Rattle.buckfleet_trial_sweep.specs.declared.combination.Combination.{Combination}
+use Rattle.buckfleet_tasks.specs.declared.combination.Combination.{Combination}
 use Rattle.buck_c_calls.specs.declared.asked.Run.{Run as RunAsked}
 use Rattle.buck_c_calls.specs.declared.several.Stop.{Stop}
 use Rattle.buck_c_calls.specs.declared.several.Stop.TheVariants.{Misused, Fault}

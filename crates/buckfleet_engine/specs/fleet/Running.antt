@@ -4,8 +4,8 @@ use Rattle.std.specs.Io.KnownBytes.{Appends, Keeps}
 use Rattle.buck_book_postings.specs.History.{HistoryParts}
 use Rattle.buck_book_text.specs.Written.{journal_text}
 use Rattle.buck_fleet_round_robin.specs.Turn.{AreInTurn}
-use Rattle.buckfleet_engine.specs.declared.fleet.serving.Order.{Order}
-use Rattle.buckfleet_engine.specs.declared.fleet.serving.Order.TheVariants.{AtOnce, InTurn}
+use Rattle.buckfleet_tasks.specs.declared.harvests.Order.{Order}
+use Rattle.buckfleet_tasks.specs.declared.harvests.Order.TheVariants.{AtOnce, InTurn}
 use Rattle.buckfleet_engine_files.specs.declared.fault.EngineFault.{EngineFault}
 use Rattle.buckfleet_engine_files.specs.declared.fault.EngineFault.TheVariants.{Seats, Full}
 use Rattle.buckfleet_engine_files.specs.Reading.{ReadsApt}

@@ -5,8 +5,8 @@ use Rattle.std.specs.Io.KnownBytes.{Keeps}
 use Rattle.buck_book_postings.specs.History.{HistoryParts}
 use Rattle.buckfleet_engine_files.specs.declared.fault.EngineFault.{EngineFault}
 use Rattle.buckfleet_engine_files.specs.declared.fault.EngineFault.TheVariants.{Write}
-use Rattle.buckfleet_engine.specs.declared.fleet.serving.Order.{Order}
-use Rattle.buckfleet_engine.specs.declared.fleet.serving.FleetTask.{FleetTask}
+use Rattle.buckfleet_tasks.specs.declared.harvests.Order.{Order}
+use Rattle.buckfleet_tasks.specs.declared.harvests.FleetTask.{FleetTask}
 use Rattle.buckfleet_engine_files.specs.Lent.{no_writer, of_writer}
 use Rattle.buckfleet_engine.specs.fleet.Running.{IsFleetRun}
 use Rattle.buckfleet_engine_files.specs.Opening.{AnswersInputs}

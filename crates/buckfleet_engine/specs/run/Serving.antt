@@ -2,8 +2,8 @@
 use Rattle.std.specs.Prelude.{◌≡◌, ℕ, List, Option, Result, Ok, Err}
 use Rattle.std.specs.Io.KnownBytes.{Keeps}
 use Rattle.buckfleet_engine_files.specs.declared.fault.EngineFault.{EngineFault}
-use Rattle.buckfleet_engine.specs.declared.run.serving.Task.{Task}
-use Rattle.buckfleet_engine.specs.declared.run.serving.Task.TheVariants.{Bare, Report}
+use Rattle.buckfleet_tasks.specs.declared.work.Task.{Task}
+use Rattle.buckfleet_tasks.specs.declared.work.Task.TheVariants.{Bare, Report}
 use Rattle.buckfleet_engine.specs.run.Bucking.{AnswersBare}
 use Rattle.buckfleet_engine.specs.run.Checking.{AnswersJournal, IsJournalReport}
 use Rattle.buckfleet_engine_files.specs.Reading.{apt_with}

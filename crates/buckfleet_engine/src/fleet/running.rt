@@ -4,7 +4,7 @@ ghost use Rattle.std.specs.Result.{IsErrAnd};
 ghost use Rattle.buck_apt.specs.Apt.{apt_of};
 ghost use Rattle.buck_rule.specs.Stored.{AllAnswer};
 ghost use Rattle.buckfleet_engine_files.specs.declared.fault.EngineFault.TheVariants.{Seats, Write};
-ghost use Rattle.buckfleet_engine.specs.declared.fleet.serving.Order.TheVariants.{AtOnce};
+ghost use Rattle.buckfleet_tasks.specs.declared.harvests.Order.TheVariants.{AtOnce};
 ghost use Rattle.buckfleet_engine_files.specs.Reading.{IfStopped, apt_with};
 ghost use Rattle.buckfleet_engine_files.specs.Lent.{of_lent};
 ghost use Rattle.buckfleet_engine.specs.fleet.Running.{IsFleetRun};

@@ -5,39 +5,13 @@ ghost use Rattle.buckfleet_engine.specs.fleet.Serving.{RunsFleet};
 use crate::fleet::running::cut_files;
 use crate::fleet::turning::cut_files_in_turn;
 use crate::fleet::writing::write_made;
-use buck_apt::Settings;
-use buck_rule::{NamedRule, Rule, Standing};
+use buck_rule::{Rule, Standing};
 use buckfleet_engine_files::{EngineFault, Make, Onlooker, Open, make_journal, open_inputs};
+use buckfleet_tasks::{FleetTask, Order};
 use std::alloc::Global;
 use std::io;
 use std::sync::Wait;
 use std::thread::Threads;
-
-/// In which order harvesters cut.
-#[derive(Clone, Copy, Debug, PartialEq, Eq, Drop)]
-pub enum Order {
-    /// All at once, each in a thread of its own; which one commits first is open.
-    AtOnce,
-    /// In turn, one stem each, round by round.
-    InTurn,
-}
-
-/// The arguments of a fleet.
-#[derive(Drop)]
-pub struct FleetTask<'a> {
-    /// In which order the harvesters cut.
-    pub order: Order,
-    /// How prices follow what was cut.
-    pub rule: NamedRule,
-    /// The numbers that are put in the place of the instruction's own.
-    pub settings: Settings,
-    /// The name of the file that the journal goes into, if one is wanted.
-    pub journal: Option<&'a str>,
-    /// The name of the instruction file.
-    pub apt: &'a str,
-    /// The names of the stem files, one for each harvester.
-    pub stms: Vec<&'a str>,
-}
 
 /// Runs a fleet over the files of a task, by its rule. The onlooker is shown what was read and, while the fleet works,
 /// how far it is; [`Nobody`](buckfleet_engine_files::Nobody) is one that doesn't ask.

@@ -7,7 +7,7 @@ ghost use Rattle.buck_rule.specs.Stored.{Answers};
 ghost use Rattle.buck_book_postings.specs.Pricing.{AreSheetsBy};
 ghost use Rattle.buck_fleet_round_robin.specs.Turn.{AreInTurn, stems_in_all};
 ghost use Rattle.buckfleet_engine_files.specs.declared.fault.EngineFault.TheVariants.{Full, Seats, Write};
-ghost use Rattle.buckfleet_engine.specs.declared.fleet.serving.Order.TheVariants.{InTurn};
+ghost use Rattle.buckfleet_tasks.specs.declared.harvests.Order.TheVariants.{InTurn};
 ghost use Rattle.buckfleet_engine_files.specs.Reading.{IfStopped, apt_with};
 ghost use Rattle.buckfleet_engine_files.specs.Lent.{of_lent};
 ghost use Rattle.buckfleet_engine.specs.fleet.Running.{IsFleetRun};

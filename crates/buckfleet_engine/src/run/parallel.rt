@@ -12,21 +12,11 @@ use buckfleet_engine_files::{
     write_pieces,
 };
 use buckfleet_engine_text::buck_text_in_parts;
+use buckfleet_tasks::BuckTask;
 use std::alloc::Global;
 use std::io;
 use std::slice::from_ref;
 use std::thread::Threads;
-
-/// The arguments of a bucking.
-#[derive(Drop)]
-pub struct BuckTask<'a> {
-    /// The name of the instruction file.
-    pub apt: &'a str,
-    /// The name of the stem file.
-    pub stm: &'a str,
-    /// How many threads may read or cut stems at once; if nothing is said, as many as the machine has.
-    pub threads: Option<u8>,
-}
 
 /// The text of an instruction file and a stem file in pieces, whose stems are read and cut in several threads at once.
 /// The onlooker of the workers is shown the files.

@@ -12,26 +12,12 @@ ghost use Rattle.buckfleet_engine.specs.run.Serving.{RunsTask, TellsOutcome, sta
 
 use crate::run::bucking::text_of_one;
 use crate::run::reporting::run_report_with;
-use buck_apt::Settings;
 use buckfleet_engine_files::{
     EngineFault, Onlooker, Open, open_both, status, write_fault, write_text,
 };
+use buckfleet_tasks::Task;
 use std::alloc::Global;
 use std::io;
-
-/// The task of a run: its command and the arguments.
-#[derive(Drop)]
-pub enum Task<'a> {
-    /// Both files stand on standard input, with a `|` between them.
-    Bare,
-    /// The report of a journal by its instruction, in the files of these names, with these numbers in the place of the
-    /// instruction's own.
-    Report {
-        apt: &'a str,
-        journal: &'a str,
-        settings: Settings,
-    },
-}
 
 /// Bucks the stems of an input, which an onlooker is shown.
 fn buck_input<L: Onlooker, R: io::Read, W: io::Write>(

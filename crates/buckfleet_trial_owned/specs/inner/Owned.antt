@@ -10,7 +10,7 @@ use Rattle.buck_book_postings.specs.declared.posting.Posting.{Posting}
 use Rattle.buckfleet_engine_files.specs.declared.fault.EngineFault.{EngineFault}
 use Rattle.buckfleet_proceeds.specs.declared.appraisal.Appraisal.{Appraisal}
 use Rattle.buckfleet_proceeds.specs.Appraisal.{IsAppraisal}
-use Rattle.buckfleet_trial_sweep.specs.declared.combination.Combination.{Combination}
+use Rattle.buckfleet_tasks.specs.declared.combination.Combination.{Combination}
 use Rattle.buckfleet_trial_sweep.specs.Runs.{IsStop}
 use Rattle.buckfleet_trial_sweep.specs.Table.{head_line}
 use Rattle.buckfleet_trial_owned.specs.declared.outcome.OwnRun.{OwnRun}

@@ -7,7 +7,7 @@ use Rattle.buck_page_figures.specs.Degrees.{AreDegreesBy}
 use Rattle.buck_page_figures.specs.declared.degrees.Degrees.{Degrees}
 use Rattle.buck_book_journal.specs.Journal.{JournalParts}
 use Rattle.buck_fleet_round_robin.specs.Turn.{StemList}
-use Rattle.buckfleet_trial_sweep.specs.declared.combination.Combination.{Combination}
+use Rattle.buckfleet_tasks.specs.declared.combination.Combination.{Combination}
 use Rattle.buck_page_figures.specs.declared.figures.Figures.{Figures}
 use Rattle.buckfleet_engine_files.specs.declared.fault.EngineFault.{EngineFault}
 use Rattle.buck_rule.specs.declared.named.NamedRule.{NamedRule}

@@ -1,7 +1,7 @@
 use Rattle.std.proofs.Common.{rules, ◌≡◌, [], ◌∷◌, None, Some, List, length, map, Bor, sym, ap, ◌∙◌, subst}
 use Rattle.std.proofs.lemmas.List.{length-map}
 use Rattle.buckfleet_engine_files.specs.Written.{WritesText}
-use Rattle.buckfleet_proceeds.specs.declared.task.CompareTask.{CompareTask}
+use Rattle.buckfleet_tasks.specs.declared.journals.CompareTask.{CompareTask}
 use Rattle.buckfleet_proceeds.specs.Serving.{AnswersCompare}
 use Rattle.buck_c_calls.proofs.Asking.{one_only}
 use Rattle.buck_c_calls.proofs.Ran.{in_terms_ran, ran, unhanded}

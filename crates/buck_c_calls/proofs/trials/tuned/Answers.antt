@@ -1,5 +1,5 @@
 use Rattle.std.proofs.Common.{rules, Some, List, map, Bor}
-use Rattle.buckfleet_trial_sweep.specs.declared.combination.Combination.{Combination}
+use Rattle.buckfleet_tasks.specs.declared.combination.Combination.{Combination}
 use Rattle.buckfleet_trial.specs.Inputs.{held_with}
 use Rattle.buckfleet_trial.specs.Tune.{AnswersTune}
 use Rattle.buck_c_calls.specs.Asked.{IsCombination}

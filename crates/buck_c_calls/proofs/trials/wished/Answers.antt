@@ -1,5 +1,5 @@
 use Rattle.std.proofs.Common.{rules, Some, List, map, Bor, subst}
-use Rattle.buckfleet_trial_sweep.specs.declared.combination.Combination.{Combination}
+use Rattle.buckfleet_tasks.specs.declared.combination.Combination.{Combination}
 use Rattle.buckfleet_terms_files.specs.Telling.{WritesTerms}
 use Rattle.buckfleet_trial.specs.Inputs.{held_with}
 use Rattle.buckfleet_trial.specs.Wishes.{AnswersWishes}

@@ -1,7 +1,7 @@
 use Rattle.std.proofs.Common.{◌≡◌, List, Some, ap, rules}
 use Rattle.std.specs.Prelude.{slice_get}
 use Rattle.buck_rule.specs.declared.named.NamedRule.TheVariants.{Step}
-use Rattle.buckfleet_trial_sweep.specs.declared.combination.Combination.{Combination}
+use Rattle.buckfleet_tasks.specs.declared.combination.Combination.{Combination}
 use Rattle.wrong_trial.specs.Texts.{own_run}
 use Rattle.wrong_trial.proofs.Tables.{without_draws}
 use Rattle.wrong_trial.proofs.trials.trial_draws_of_other_orders.Goals as goal

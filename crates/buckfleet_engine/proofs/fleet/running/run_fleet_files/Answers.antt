@@ -1,5 +1,5 @@
 use Rattle.std.proofs.KnownBytes.{Keeps-refl}
-use Rattle.buckfleet_engine.specs.declared.fleet.serving.Order.TheVariants.{AtOnce}
+use Rattle.buckfleet_tasks.specs.declared.harvests.Order.TheVariants.{AtOnce}
 use Rattle.buckfleet_engine_files.specs.Lent.{no_writer, of_writer}
 use Rattle.buckfleet_engine_files.proofs.Numbers.{own_reads}
 use Rattle.buckfleet_engine.proofs.Runs.{no_texts, texts_written}

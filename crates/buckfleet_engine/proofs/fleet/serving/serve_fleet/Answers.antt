@@ -1,5 +1,5 @@
 use Rattle.std.proofs.Common.{rules, refl}
-use Rattle.buckfleet_engine.specs.declared.fleet.serving.Order.TheVariants.{AtOnce, InTurn}
+use Rattle.buckfleet_tasks.specs.declared.harvests.Order.TheVariants.{AtOnce, InTurn}
 use Rattle.buckfleet_engine.specs.fleet.Running.{IsFleetRun}
 use Rattle.buckfleet_engine.specs.inner.Fleet.{AreWritten}
 use Rattle.buckfleet_engine_files.specs.Reading.{apt_with}

@@ -1,8 +1,21 @@
-//! What is asked of trials.
+//! What is asked of sweeps and trials.
+use crate::combination::Combination;
 use buck_apt::Settings;
 use buck_rule::NamedRule;
 use buckfleet_trial_draws::Draws;
-use buckfleet_trial_sweep::Combination;
+
+/// The arguments of a sweep.
+#[derive(Drop)]
+pub struct SweepTask<'a> {
+    /// The runs, in the order of their lines.
+    pub combinations: Vec<Combination>,
+    /// The name of the instruction file.
+    pub apt: &'a str,
+    /// The names of the stem files, one for each harvester.
+    pub stms: Vec<&'a str>,
+    /// How many runs may be done at once, in threads of their own; if nothing is said, as many as the machine has.
+    pub threads: Option<u8>,
+}
 
 /// The arguments of a sweep with other targets, or with draws.
 #[derive(Drop)]
@@ -19,6 +32,15 @@ pub struct TrialTask<'a> {
     pub draws: Option<Draws>,
     /// How many runs may be done at once, in threads of their own; if nothing is said, as many as the machine has.
     pub threads: Option<u8>,
+}
+
+/// The arguments of a trial whose lines also say what an owner pays.
+#[derive(Drop)]
+pub struct OwnedTask<'a> {
+    /// The arguments of the trial itself.
+    pub trial: TrialTask<'a>,
+    /// The name of the file of the owner's instruction.
+    pub own: &'a str,
 }
 
 /// The arguments of a run of wishes.

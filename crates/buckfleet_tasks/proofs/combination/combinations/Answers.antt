@@ -1,5 +1,5 @@
 use Rattle.std.proofs.Common.{arith}
-use Rattle.buckfleet_trial_sweep.proofs.combination.combinations.Goals as goal
+use Rattle.buckfleet_tasks.proofs.combination.combinations.Goals as goal
 
 pub returns-in_default-clause-refused : goal.returns-in_default-clause-refused
 returns-in_default-clause-refused c = λ all. absurd (c.in_default.ensures.none (record {

@@ -1,7 +1,7 @@
 -- The words of the command line.
 use Rattle.std.specs.Prelude.{ℕ, List, codes}
-use Rattle.buck_page_tables.specs.declared.tables.Table.{Table}
-use Rattle.buck_page_tables.specs.declared.tables.Table.TheVariants.{Classes, Postings, Logs, Degrees, Assortments, Lacking}
+use Rattle.buck_page_cells.specs.declared.table.Table.{Table}
+use Rattle.buck_page_cells.specs.declared.table.Table.TheVariants.{Classes, Postings, Logs, Degrees, Assortments, Lacking}
 
 -- the word that asks for a table
 abbrev pub table_name : Table → List ℕ

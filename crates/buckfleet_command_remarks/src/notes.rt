@@ -1,12 +1,12 @@
 //! Warnings after a successful run: nothing went wrong, but a mistake is likely.
-use crate::known::Known;
 use crate::reason::Inquest;
-use crate::subject::Subject;
 use buck_apt::Instruction;
 use buck_record::Memory;
+use buckfleet_command_streams::Known;
 use buckfleet_engine_files::HasStem;
 use buckfleet_notes::{first_again, first_namesake, first_untaken, is_too_long, is_unsteered};
 use buckfleet_reason::{Quoted, Several, Shown};
+use buckfleet_tasks::Subject;
 use std::alloc::Global;
 use std::fmt;
 
@@ -139,7 +139,7 @@ impl<'a, A: Known> Inquest<'a, A> {
     }
 
     /// The warnings after some work, a line each, with those about what it has read. Refused as `Memory` alone.
-    pub(crate) fn notes(&self, input: Option<&Result<String, Memory>>) -> Result<String, Memory> {
+    pub fn notes(&self, input: Option<&Result<String, Memory>>) -> Result<String, Memory> {
         let mut out = String::new(self.alloc);
         self.journal_note(&mut out)?;
         self.twice_note(&mut out)?;

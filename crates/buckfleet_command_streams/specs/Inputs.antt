@@ -1,10 +1,10 @@
 -- Standard input and standard output in the place of files.
 use Rattle.std.specs.Prelude.{◌≡◌, ℕ, List, Option, None, codes}
 use Rattle.std.specs.Option.{option_map}
-use Rattle.buckfleet_command.specs.declared.inputs.Opened.{Opened}
-use Rattle.buckfleet_command.specs.declared.inputs.Opened.TheVariants.{File, Input}
-use Rattle.buckfleet_command.specs.declared.inputs.Written.{Written}
-use Rattle.buckfleet_command.specs.declared.inputs.Written.TheVariants.{Made, Output}
+use Rattle.buckfleet_command_streams.specs.declared.inputs.Opened.{Opened}
+use Rattle.buckfleet_command_streams.specs.declared.inputs.Opened.TheVariants.{File, Input}
+use Rattle.buckfleet_command_streams.specs.declared.inputs.Written.{Written}
+use Rattle.buckfleet_command_streams.specs.declared.inputs.Written.TheVariants.{Made, Output}
 
 -- what is left of a file; of standard input nothing is known
 abbrev pub left_in : {F R : Type 0} → (F → Option (List ℕ)) → Opened F R → Option (List ℕ)

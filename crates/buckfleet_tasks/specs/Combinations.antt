@@ -3,7 +3,7 @@ use Rattle.std.specs.Prelude.{ℕ, ◌≤◌, List, map, All, Option, IfSome}
 use Rattle.std.specs.List.{flat_map}
 use Rattle.buck_apt.specs.Instruction.{IsWithin}
 use Rattle.buck_rule.specs.declared.named.NamedRule.{NamedRule}
-use Rattle.buckfleet_trial_sweep.specs.declared.combination.Combination.{Combination}
+use Rattle.buckfleet_tasks.specs.declared.combination.Combination.{Combination}
 
 -- a rule and a period with each limit
 abbrev pub with_limits : List (Option ℕ) → NamedRule → Option ℕ → List Combination

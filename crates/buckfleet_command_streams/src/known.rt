@@ -8,7 +8,7 @@ use std::os::unix::fs::MetadataExt;
 use std::rt::Files;
 
 /// The most bytes that a file may have.
-pub(crate) const LIMIT: u64 = 67_108_864;
+pub const LIMIT: u64 = 67_108_864;
 
 /// Why a file can't be read or written.
 #[derive(Clone, Copy, Debug, PartialEq, Eq)]
@@ -33,7 +33,7 @@ pub enum Trouble {
 
 impl Trouble {
     /// What an error of a file says.
-    pub(crate) fn of(kind: ErrorKind) -> Trouble {
+    pub fn of(kind: ErrorKind) -> Trouble {
         match kind {
             ErrorKind::NotFound | ErrorKind::NotADirectory => Trouble::Missing,
             ErrorKind::IsADirectory => Trouble::Folder,
@@ -46,10 +46,11 @@ impl Trouble {
 
 /// Why a file can't be read or written, in words.
 #[derive(Clone, Copy)]
-pub(crate) struct Troubled<'a> {
-    pub(crate) trouble: Trouble,
+pub struct Troubled<'a> {
+    /// Why it can't.
+    pub trouble: Trouble,
     /// The names of the input files.
-    pub(crate) inputs: &'a [&'a str],
+    pub inputs: &'a [&'a str],
 }
 
 impl fmt::Display for Troubled<'_> {

@@ -1,17 +1,16 @@
 //! Why a run failed, in words, from its fault and from what was read.
-use crate::inputs::{Copied, DASH};
-use crate::known::{Known, LIMIT, Trouble, Troubled};
-use crate::subject::{INPUT, Subject};
 use buck_apt::{AptFault, Instruction, Settings, read_apt};
 use buck_book_journal::{Journal, JournalFault, ReplayFault};
 use buck_book_text::read_journal;
 use buck_record::Memory;
-use buck_stem::{StmFault, read_stm};
+use buck_stem::StmFault;
+use buckfleet_command_streams::{Copied, Known, LIMIT, Trouble, Troubled};
 use buckfleet_engine_files::{CheckFault, EngineFault};
 use buckfleet_reason::{Here, Said, Source, apt_reason, journal_reason, stm_reason};
 use buckfleet_reason_replay::{
     Mispriced, Tied, Unlawful, WrongTargets, replay_reason, rule_reason,
 };
+use buckfleet_tasks::{DASH, INPUT, Subject};
 use buckfleet_terms_files::{OwnFault, TargetsFault, TermsFault, all_numbers};
 use std::alloc::Global;
 use std::io::ErrorKind;
@@ -19,14 +18,17 @@ use std::sync::Arc;
 
 /// What is known of a run that ended.
 #[derive(Drop)]
-pub(crate) struct Inquest<'a, A> {
-    pub(crate) alloc: Global,
-    pub(crate) subject: &'a Subject<'a>,
+pub struct Inquest<'a, A> {
+    /// Has the room for what is said.
+    pub alloc: Global,
+    /// The files that its work was about.
+    pub subject: &'a Subject<'a>,
     /// What was read of its inputs, in the order in which they were opened.
-    pub(crate) copies: &'a [Copied],
+    pub copies: &'a [Copied],
     /// Why standard output couldn't be written, if it couldn't.
-    pub(crate) unwritten: Option<ErrorKind>,
-    pub(crate) known: &'a A,
+    pub unwritten: Option<ErrorKind>,
+    /// What is known of its files beside their bytes.
+    pub known: &'a A,
 }
 
 /// The name of standard output.
@@ -349,7 +351,7 @@ impl<'a, A: Known> Inquest<'a, A> {
 
     /// What was wrong in a run that ended with this fault, in lines of text; none if that isn't known. Refused as
     /// `Memory` alone.
-    pub(crate) fn reason(&self, fault: &TermsFault) -> Said {
+    pub fn reason(&self, fault: &TermsFault) -> Said {
         match fault {
             TermsFault::Run(fault) => self.run_reason(fault),
             TermsFault::Targets(fault) => self.targets_reason(fault),

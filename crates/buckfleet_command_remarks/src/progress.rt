@@ -3,15 +3,13 @@
 ghost use Rattle.std.specs.Prelude.{◌≡◌};
 ghost use Rattle.std.specs.Option.{option_map};
 
-use crate::inputs::Kept;
 use crate::notes::input_notes;
-use crate::subject::Subject;
-use crate::working::Work;
 use buck_apt::Instruction;
 use buck_record::Memory;
-use buckfleet_engine_files::{HasStem, Make, Onlooker, Open};
+use buckfleet_command_streams::Kept;
+use buckfleet_engine_files::{HasStem, Make, Onlooker, Open, RunOnlooker};
 use buckfleet_reason::Shown;
-use buckfleet_trial::RunOnlooker;
+use buckfleet_tasks::{Subject, Work};
 use std::alloc::Global;
 use std::io;
 use std::sync::OnceLock;
@@ -21,7 +19,9 @@ use std::time::{Clock, Instant};
 /// A screen for progress, and the clock of its work.
 #[derive(Clone, Copy)]
 pub struct Screen<S, C> {
+    /// Takes what is shown.
     pub writer: S,
+    /// Says how long the work goes on.
     pub clock: C,
     /// Whether the rest of a line can be erased.
     pub erases: bool,
@@ -30,11 +30,12 @@ pub struct Screen<S, C> {
 /// One line of progress on a screen, if there is one: it is updated in place, or on a line of its own if the screen
 /// can't erase. What deserves a warning is noted for that screen.
 #[derive(Drop)]
-pub(crate) struct Progress<'a, S, C> {
+pub struct Progress<'a, S, C> {
     alloc: Global,
-    pub(crate) screen: Option<Screen<S, C>>,
+    /// Where the line is drawn, if it is.
+    pub screen: Option<Screen<S, C>>,
     /// The work that goes on, and its files.
-    pub(crate) work: &'a Work<'a>,
+    pub work: &'a Work<'a>,
     subject: &'a Subject<'a>,
     start: Option<Instant>,
     is_drawn: AtomicBool,
@@ -42,7 +43,7 @@ pub(crate) struct Progress<'a, S, C> {
     all: AtomicU64,
     done: AtomicU64,
     /// The warnings about an instruction and the stems that are cut by it, once these are read.
-    pub(crate) notes: OnceLock<Result<String, Memory>>,
+    pub notes: OnceLock<Result<String, Memory>>,
 }
 
 /// The least number of bytes of a file that is reported.
@@ -56,7 +57,7 @@ const SOON: u64 = 1;
 
 /// Returns whether it is reported that so many stems of all are planned: at each percent, and no more often than each
 /// thousand, and at the last.
-pub fn is_told(planned: u64, stems: u64) -> bool {
+fn is_told(planned: u64, stems: u64) -> bool {
     planned % (stems / 100).max(MANY) == 0 || planned == stems
 }
 
@@ -67,7 +68,7 @@ fn percent(done: u64, all: u64) -> u64 {
 
 impl<'a, S: io::Write + Copy, C: Clock + Copy> Progress<'a, S, C> {
     /// Returns a line on this screen, for work that begins now; without a screen it draws and notes nothing.
-    pub(crate) fn on(
+    pub fn on(
         alloc: Global,
         screen: Option<Screen<S, C>>,
         work: &'a Work<'a>,
@@ -133,7 +134,7 @@ impl<'a, S: io::Write + Copy, C: Clock + Copy> Progress<'a, S, C> {
     }
 
     /// Ends the line: the work has ended, and what is drawn stays.
-    pub(crate) fn end(&self) {
+    pub fn end(&self) {
         if !self.is_drawn.load(Ordering::SeqCst) {
             return;
         }
@@ -209,16 +210,20 @@ impl<'a, S: io::Write + Copy, C: Clock + Copy> RunOnlooker for Progress<'a, S, C
 
 /// Files that another opener opens. Each is reported when it was read, and what was read is kept.
 #[derive(Drop)]
-pub(crate) struct Watched<'a, O, S, C> {
-    pub(crate) files: O,
-    pub(crate) progress: &'a Progress<'a, S, C>,
-    pub(crate) kept: &'a Kept,
+pub struct Watched<'a, O, S, C> {
+    /// The other opener.
+    pub files: O,
+    /// To which it is reported.
+    pub progress: &'a Progress<'a, S, C>,
+    /// Where it is kept.
+    pub kept: &'a Kept,
 }
 
 /// A file that is reported when it was read to its end. What was read is kept.
 #[derive(Drop)]
-pub(crate) struct WatchedFile<'a, R, S, C> {
-    file: R,
+pub struct WatchedFile<'a, R, S, C> {
+    /// The file itself.
+    pub file: R,
     name: Option<String>,
     bytes: u64,
     progress: &'a Progress<'a, S, C>,
@@ -228,8 +233,9 @@ pub(crate) struct WatchedFile<'a, R, S, C> {
 }
 
 impl<'a, O, S, C> Watched<'a, O, S, C> {
-    /// A file that was opened.
-    pub(crate) fn file<R>(
+    /// Returns a file that was opened, to be reported by this name, if it has one, and kept at this place, if it is
+    /// kept.
+    pub fn file<R>(
         &self,
         file: R,
         name: Option<String>,

@@ -1,40 +1,42 @@
 //! The files that some work is about.
-use crate::inputs::DASH;
-use crate::working::Work;
+use crate::journals::AppraiseTask;
+use crate::trials::OwnedTask;
+use crate::work::{Task, Work};
 use buck_apt::Settings;
 use buck_rule::NamedRule;
-use buckfleet_engine::Task;
-use buckfleet_proceeds::AppraiseTask;
-use buckfleet_trial_owned::OwnedTask;
 use std::alloc::{AllocError, Global};
 
-/// The name of standard input.
-pub(crate) const INPUT: &str = "standard input";
+/// The name by which standard input is read, and standard output written.
+pub const DASH: &str = "-";
+
+/// What standard input is called where it is spoken of.
+pub const INPUT: &str = "standard input";
 
 /// The name of what follows the bar there.
 const BEHIND: &str = "standard input, after the |";
 
-/// What some work is about.
+/// What some work is about: its files, which have numbers from 0, and the numbers that are put in the place of the
+/// instruction's own.
 #[derive(Drop)]
-pub(crate) struct Subject<'a> {
+pub struct Subject<'a> {
     /// The names of its input files, by their numbers; none if both are on standard input.
-    pub(crate) names: Vec<&'a str>,
+    pub names: Vec<&'a str>,
     /// How many of them come before the stem files.
-    pub(crate) others: usize,
+    pub others: usize,
     /// Number of them that come after these.
-    pub(crate) behind: usize,
+    pub behind: usize,
     /// How many of them are journals that are shown.
-    pub(crate) journals: usize,
+    pub journals: usize,
     /// The name of the file that a journal goes into, if one is asked for.
-    pub(crate) out: Option<&'a str>,
+    pub out: Option<&'a str>,
     /// Whether prices move by what is cut of the stem files.
-    pub(crate) is_steered: bool,
+    pub is_steered: bool,
     /// The rule that a journal is checked by, if there is one.
-    pub(crate) rule: Option<NamedRule>,
+    pub rule: Option<NamedRule>,
     /// The numbers that replace the instruction's own, if there are any.
-    pub(crate) settings: Option<&'a Settings>,
+    pub settings: Option<&'a Settings>,
     /// The numbers that replace the instruction's own for a second journal, if it has any.
-    pub(crate) second: Option<&'a Settings>,
+    pub second: Option<&'a Settings>,
 }
 
 impl<'a> Subject<'a> {
@@ -130,8 +132,9 @@ impl<'a> Subject<'a> {
         }
     }
 
-    /// What work is about.
-    pub(crate) fn of(alloc: Global, work: &'a Work<'a>) -> Result<Subject<'a>, AllocError> {
+    /// Returns what work is about: its input files in the order in which they are opened. Refused if there is no memory
+    /// for their names.
+    pub fn of(alloc: Global, work: &'a Work<'a>) -> Result<Subject<'a>, AllocError> {
         match work {
             Work::Plain(task) => Subject::of_task(alloc, task),
             Work::Buck(task) => Subject::of_files(alloc, task.apt, &[task.stm]),
@@ -176,8 +179,9 @@ impl<'a> Subject<'a> {
         }
     }
 
-    /// The name of the file of a number, as it is said.
-    pub(crate) fn name(&self, file: usize) -> &'a str {
+    /// Returns the name of the file of a number, as it is said; that of standard input for `-` and for a number that no
+    /// file has.
+    pub fn name(&self, file: usize) -> &'a str {
         if self.is_bare() {
             return if file == 0 { INPUT } else { BEHIND };
         }
@@ -190,12 +194,12 @@ impl<'a> Subject<'a> {
     }
 
     /// Whether both files stand on standard input.
-    pub(crate) fn is_bare(&self) -> bool {
+    pub fn is_bare(&self) -> bool {
         self.names.is_empty()
     }
 
     /// Whether standard input is named more than once.
-    pub(crate) fn has_input_twice(&self) -> bool {
+    pub fn has_input_twice(&self) -> bool {
         let mut dashes = 0usize;
         for name in self.names.as_slice() {
             if *name == DASH {
@@ -205,8 +209,8 @@ impl<'a> Subject<'a> {
         dashes > 1
     }
 
-    /// How many stem files there are.
-    pub(crate) fn stem_files(&self) -> usize {
+    /// Returns how many of the input files are stem files.
+    pub fn stem_files(&self) -> usize {
         self.names
             .len()
             .saturating_sub(self.others)

@@ -1,6 +1,6 @@
 use Rattle.std.proofs.Common.{◌≡◌, ◌++◌, take}
-use Rattle.buckfleet_trial_sweep.specs.Combinations.{combinations_of, with_limits, with_periods}
-use Rattle.buckfleet_trial_sweep.proofs.combination.combinations.Given as goal
+use Rattle.buckfleet_tasks.specs.Combinations.{combinations_of, with_limits, with_periods}
+use Rattle.buckfleet_tasks.proofs.combination.combinations.Given as goal
 
 abbrev pub invariant-loop-rule : goal.invariant-loop-rule
 invariant-loop-rule l = l.made.items ≡ combinations_of (take l.rule-index l.rules) l.periods l.limits

@@ -1,25 +1,20 @@
 //! Standard input and standard output in the place of files.
 use crate::known::{Known, LIMIT};
-use crate::teller::Teller;
-use buck_apt::Instruction;
-use buckfleet_engine_files::{EngineFault, Make, Open};
-use buckfleet_live::Replies;
+use buckfleet_engine_files::{Make, Open};
+use buckfleet_tasks::DASH;
 use std::alloc::Global;
 use std::cell::{Cell, RefCell};
 use std::io;
 use std::io::{Error, ErrorKind};
 
-/// The name by which standard input is read, and standard output written.
-pub(crate) const DASH: &str = "-";
-
 /// What was read of an input, as far as there was memory to keep it, and how its reading ended.
 #[derive(Drop)]
-pub(crate) struct Copied {
+pub struct Copied {
     bytes: Vec<u8>,
     is_whole: bool,
     count: u64,
     /// Why no more of it could be read, if it couldn't.
-    pub(crate) refused: Option<ErrorKind>,
+    pub refused: Option<ErrorKind>,
 }
 
 impl Copied {
@@ -37,7 +32,7 @@ impl Copied {
     }
 
     /// What was read, if all of it was kept.
-    pub(crate) fn bytes(&self) -> Option<&[u8]> {
+    pub fn bytes(&self) -> Option<&[u8]> {
         if self.is_whole {
             Some(self.bytes.as_slice())
         } else {
@@ -46,14 +41,14 @@ impl Copied {
     }
 
     /// How many bytes were read.
-    pub(crate) fn count(&self) -> u64 {
+    pub fn count(&self) -> u64 {
         self.count
     }
 }
 
 /// What was read of the inputs of a run, in the order in which they were opened, if that is to be kept.
 #[derive(Drop)]
-pub(crate) struct Kept {
+pub struct Kept {
     alloc: Global,
     is_wanted: Cell<bool>,
     /// How many bytes the inputs have, as far as that is known.
@@ -71,7 +66,7 @@ fn size_of<A: Known>(name: &str, known: &A) -> usize {
 
 impl Kept {
     /// What is kept of inputs of these names, if anything is to be: nothing yet.
-    pub(crate) fn of<A: Known>(alloc: Global, names: &[&str], known: &A, is_wanted: bool) -> Kept {
+    pub fn of<A: Known>(alloc: Global, names: &[&str], known: &A, is_wanted: bool) -> Kept {
         let mut sizes = Vec::new(alloc);
         for name in names {
             if !is_wanted || sizes.push(size_of(*name, known)).is_err() {
@@ -87,7 +82,7 @@ impl Kept {
     }
 
     /// Another input is opened. Returns its place, if what is read of it is to be kept.
-    pub(crate) fn begin(&self) -> Option<usize> {
+    pub fn begin(&self) -> Option<usize> {
         if !self.is_wanted.get() {
             return None;
         }
@@ -111,7 +106,7 @@ impl Kept {
     }
 
     /// Keeps what was read of the input at a place, or why nothing could be.
-    pub(crate) fn keep(&self, place: Option<usize>, read: Result<&[u8], ErrorKind>) {
+    pub fn keep(&self, place: Option<usize>, read: Result<&[u8], ErrorKind>) {
         let (Some(place), Ok(mut inputs)) = (place, self.inputs.try_borrow_mut()) else {
             return;
         };
@@ -126,21 +121,23 @@ impl Kept {
 
 /// Standard input, which two may read in turn, and what was read of all inputs.
 #[derive(Drop)]
-pub(crate) struct Inlet<'a, R> {
+pub struct Inlet<'a, R> {
     reader: RefCell<&'a mut R>,
-    pub(crate) kept: Kept,
+    /// What was read of all inputs.
+    pub kept: Kept,
 }
 
 impl<'a, R> Inlet<'a, R> {
-    pub(crate) fn of(reader: &'a mut R, kept: Kept) -> Inlet<'a, R> {
+    /// Returns a standard input from which nothing was drawn, with what is to be kept of all inputs.
+    pub fn of(reader: &'a mut R, kept: Kept) -> Inlet<'a, R> {
         Inlet {
             reader: RefCell::new(reader),
             kept,
         }
     }
 
-    /// What was read of the inputs.
-    pub(crate) fn into_copies(self) -> Vec<Copied> {
+    /// Returns what was read of the inputs, in the order in which they were opened.
+    pub fn into_copies(self) -> Vec<Copied> {
         let Inlet { reader: _, kept } = self;
         let Kept { inputs, .. } = kept;
         inputs.into_inner()
@@ -149,8 +146,9 @@ impl<'a, R> Inlet<'a, R> {
 
 /// One of those who read standard input.
 #[derive(Drop)]
-pub(crate) struct Drawn<'a, 'b, R> {
-    pub(crate) inlet: &'a Inlet<'b, R>,
+pub struct Drawn<'a, 'b, R> {
+    /// What is read.
+    pub inlet: &'a Inlet<'b, R>,
 }
 
 impl<'a, 'b, R: io::Read> io::Read for Drawn<'a, 'b, R> {
@@ -164,13 +162,15 @@ impl<'a, 'b, R: io::Read> io::Read for Drawn<'a, 'b, R> {
 
 /// A file, or standard input.
 #[derive(Drop)]
-pub(crate) enum Opened<'a, 'b, F, R> {
+pub enum Opened<'a, 'b, F, R> {
+    /// A file that was opened.
     File(F),
+    /// Standard input.
     Input(Drawn<'a, 'b, R>),
 }
 
 impl<'a, 'b, F: io::Read, R: io::Read> io::Read for Opened<'a, 'b, F, R> {
-    ghost use Rattle.buckfleet_command.specs.Inputs.{left_in};
+    ghost use Rattle.buckfleet_command_streams.specs.Inputs.{left_in};
 
     // What is read of a file is what the file gives.
     ghost remaining = { λ o. left_in F.remaining o };
@@ -185,14 +185,15 @@ impl<'a, 'b, F: io::Read, R: io::Read> io::Read for Opened<'a, 'b, F, R> {
 
 /// Standard output, which two may write to in turn.
 #[derive(Drop)]
-pub(crate) struct Outlet<'a, W> {
+pub struct Outlet<'a, W> {
     writer: RefCell<&'a mut W>,
     /// Why something couldn't be written, if it couldn't.
     refused: Cell<Option<ErrorKind>>,
 }
 
 impl<'a, W> Outlet<'a, W> {
-    pub(crate) fn of(writer: &'a mut W) -> Outlet<'a, W> {
+    /// Returns a standard output to which nothing was written.
+    pub fn of(writer: &'a mut W) -> Outlet<'a, W> {
         Outlet {
             writer: RefCell::new(writer),
             refused: Cell::new(None),
@@ -200,12 +201,12 @@ impl<'a, W> Outlet<'a, W> {
     }
 
     /// Why something couldn't be written, if it couldn't.
-    pub(crate) fn refused(&self) -> Option<ErrorKind> {
+    pub fn refused(&self) -> Option<ErrorKind> {
         self.refused.get()
     }
 
     /// Whether the pipe that is written to has no reader left.
-    pub(crate) fn is_gone(&self) -> bool {
+    pub fn is_gone(&self) -> bool {
         self.refused.get() == Some(ErrorKind::BrokenPipe)
     }
 
@@ -217,8 +218,9 @@ impl<'a, W> Outlet<'a, W> {
 
 /// One of those who write to standard output.
 #[derive(Drop)]
-pub(crate) struct Shared<'a, 'b, W> {
-    pub(crate) outlet: &'a Outlet<'b, W>,
+pub struct Shared<'a, 'b, W> {
+    /// What is written to.
+    pub outlet: &'a Outlet<'b, W>,
 }
 
 impl<'a, 'b, W: io::Write> io::Write for Shared<'a, 'b, W> {
@@ -245,45 +247,17 @@ impl<'a, 'b, W: io::Write> io::Write for Shared<'a, 'b, W> {
     }
 }
 
-/// Standard output of `live`, before whose answers the reason of a refused request is said in words.
-#[derive(Drop)]
-pub(crate) struct Spoken<'a, 'b, 'c, 'd, W, E, S, C> {
-    pub(crate) output: Shared<'a, 'b, W>,
-    pub(crate) teller: &'c Teller<'d, E, S, C>,
-}
-
-impl<'a, 'b, 'c, 'd, W: io::Write, E, S, C> io::Write for Spoken<'a, 'b, 'c, 'd, W, E, S, C> {
-    fn write(&mut self, buf: &[u8]) -> io::Result<usize> {
-        self.output.write(buf)
-    }
-
-    fn flush(&mut self) -> io::Result<()> {
-        self.output.flush()
-    }
-}
-
-impl<'a, 'b, 'c, 'd, W: io::Write, E: io::Write, S: io::Write + Copy + Drop, C: Copy + Drop> Replies
-    for Spoken<'a, 'b, 'c, 'd, W, E, S, C> {
-    fn hear(
-        &mut self,
-        line: &[u8],
-        fits: bool,
-        instruction: &Instruction,
-        answer: &Result<Vec<u8>, EngineFault>,
-    ) {
-        self.teller.hear(line, fits, instruction, answer);
-    }
-}
-
 /// A file that is created or replaced, or standard output.
 #[derive(Drop)]
-pub(crate) enum Written<'a, 'b, M, W> {
+pub enum Written<'a, 'b, M, W> {
+    /// A file that was made.
     Made(M),
+    /// Standard output.
     Output(Shared<'a, 'b, W>),
 }
 
 impl<'a, 'b, M: io::Write, W: io::Write> io::Write for Written<'a, 'b, M, W> {
-    ghost use Rattle.buckfleet_command.specs.Inputs.{stands_in};
+    ghost use Rattle.buckfleet_command_streams.specs.Inputs.{stands_in};
 
     // What stands in a file is what the file says.
     ghost contents = { λ w. stands_in M.contents w };
@@ -305,16 +279,19 @@ impl<'a, 'b, M: io::Write, W: io::Write> io::Write for Written<'a, 'b, M, W> {
 
 /// Files that another opens and makes, with standard input and output under the name `-`.
 #[derive(Drop)]
-pub(crate) struct Streamed<'a, 'b, 'c, 'd, O, R, W> {
-    pub(crate) files: O,
-    pub(crate) inlet: &'a Inlet<'b, R>,
-    pub(crate) outlet: &'c Outlet<'d, W>,
+pub struct Streamed<'a, 'b, 'c, 'd, O, R, W> {
+    /// The other, for each name but `-`.
+    pub files: O,
+    /// Is read as `-`.
+    pub inlet: &'a Inlet<'b, R>,
+    /// Is written as `-`.
+    pub outlet: &'c Outlet<'d, W>,
 }
 
 impl<'a, 'b, 'c, 'd, O: Open, R: io::Read, W> Open for Streamed<'a, 'b, 'c, 'd, O, R, W> {
     type File = Opened<'a, 'b, O::File, R>;
 
-    ghost use Rattle.buckfleet_command.specs.Inputs.{OpensElse};
+    ghost use Rattle.buckfleet_command_streams.specs.Inputs.{OpensElse};
 
     // What is opened is what the other opens by this name, unless it is that of standard input.
     ghost opens = { λ s name f v. OpensElse O.opens s.files name f v.files };
@@ -333,7 +310,7 @@ impl<'a, 'b, 'c, 'd, O: Open, R: io::Read, W> Open for Streamed<'a, 'b, 'c, 'd, 
 impl<'a, 'b, 'c, 'd, O: Make, R, W: io::Write> Make for Streamed<'a, 'b, 'c, 'd, O, R, W> {
     type Made = Written<'c, 'd, O::Made, W>;
 
-    ghost use Rattle.buckfleet_command.specs.Inputs.{MakesElse};
+    ghost use Rattle.buckfleet_command_streams.specs.Inputs.{MakesElse};
 
     // What is made is what the other makes by this name, unless it is that of standard output.
     ghost makes = { λ s name f v. MakesElse O.makes s.files name f v.files };

@@ -1,21 +1,18 @@
 //! The arguments of the command line, and what they ask for.
 ghost use Rattle.std.specs.Prelude.{◌≡◌, ◌<◌, ◌≤◌, IfOk, IfSome, vec_len};
-ghost use Rattle.buckfleet_command.specs.Words.{table_name};
+ghost use Rattle.buckfleet_command_words.specs.Words.{table_name};
 
-use crate::inputs::DASH;
-use crate::subject::Subject;
-use crate::working::Work;
+use buck_apt::Settings;
+use buck_page_cells::Table;
 use buck_record::Memory;
 use buck_rule::NamedRule;
 use buckfleet_command_line::{PROGRAM, mistake, program};
-use buckfleet_engine::{BuckTask, FleetTask, Order, Settings, Task};
-use buckfleet_engine_cross_check::{CheckTask, CrossCheck};
-use buckfleet_engine_page::{Shown, Table, ViewTask};
-use buckfleet_live::LiveTask;
-use buckfleet_proceeds::{AppraiseTask, CompareTask};
-use buckfleet_trial::{Draws, TrialTask, TuneTask, WishesTask};
-use buckfleet_trial_owned::OwnedTask;
-use buckfleet_trial_sweep::{Combination, SweepTask, combinations};
+use buckfleet_tasks::{
+    AppraiseTask, BuckTask, CheckTask, Combination, CompareTask, CrossCheck, DASH, FleetTask,
+    LiveTask, Order, OwnedTask, Shown, Subject, SweepTask, Task, TrialTask, TuneTask, ViewTask,
+    WishesTask, Work, combinations,
+};
+use buckfleet_trial_draws::Draws;
 use clap::{ArgMatches, Error};
 use std::alloc::{AllocError, Global};
 
@@ -544,6 +541,7 @@ fn work_of<'a>(alloc: Global, name: &str, words: &ArgMatches<'a>) -> Result<Work
 /// The work that the program's arguments ask for.
 #[derive(Drop)]
 pub struct Request<'a> {
+    /// What is to be done.
     pub work: Work<'a>,
     /// Whether progress and warnings are suppressed.
     pub quiet: bool,
@@ -552,8 +550,8 @@ pub struct Request<'a> {
 }
 
 impl Request<'_> {
-    /// Keeps requests that can't be read from replacing an old journal by one of no posting.
-    pub(crate) fn keep_old_journal(&mut self) {
+    /// Keeps requests that can't be read from replacing an old journal by one of no posting. Other work stays as it is.
+    pub fn keep_old_journal(&mut self) {
         if let Work::Live(task) = &mut self.work {
             task.journal = None;
         }

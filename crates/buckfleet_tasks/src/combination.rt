@@ -1,6 +1,6 @@
 //! Which runs a table has a line for.
 ghost use Rattle.std.specs.Prelude.{◌≡◌, IfNone, IfOk, IfSome};
-ghost use Rattle.buckfleet_trial_sweep.specs.Combinations.{AreNumbers, combinations_of};
+ghost use Rattle.buckfleet_tasks.specs.Combinations.{AreNumbers, combinations_of};
 
 use buck_apt::Settings;
 use buck_record::Memory;
