@@ -1,11 +1,12 @@
 -- When a word is a number, and the first word of a text while its digits are read one after the other.
-use Rattle.std.proofs.Common.{◌≡◌, ℕ, ◌+◌, ◌*◌, ◌<◌, ◌≤◌, true, false, List, Some, None, length, get_or, take, drop, refl, sym, ap, ◌∙◌, arith, rules, inl, inr, length-take-le}
+use Rattle.std.proofs.Common.{◌≡◌, ℕ, ◌+◌, ◌*◌, ◌-◌, ◌<◌, ◌≤◌, true, false, List, Some, None, length, get_or, get_or-drop, take, drop, drop-drop, length-drop, refl, sym, ap, ◌∙◌, arith, rules, inl, inr, length-take-le}
+use Rattle.std.proofs.Math.Nat.{add-zero}
 use Rattle.std.specs.List.{list_all, position_or_len}
 use Rattle.std.specs.Char.{is_ascii_digit, digit_value}
 use Rattle.std.specs.Str.Parse.{digits_value}
 use Rattle.std.proofs.lemmas.Str.Parse.{IsNumeralModel, numerals_by_value, digits_value-take-le}
 use Rattle.std.proofs.lemmas.Int.Digits.{digits_value_more}
-use Rattle.std.proofs.lemmas.List.{get_or-take, take-take, take_rest, drop_all}
+use Rattle.std.proofs.lemmas.List.{get_or-take, take-take}
 use Rattle.std.proofs.lemmas.List.Folds.{list_all_at, list_all_more}
 use Rattle.std.proofs.lemmas.List.Sums.{AllPass-from_list_all, passes_at_first, position_or_len_is}
 use Rattle.std.proofs.lemmas.Bool.{cases_lt, false≢true, and_from, and_left, and_right, le-leb, lt-leb, lt-ltb, cond-true, cond-false}
@@ -105,5 +106,61 @@ pub no_word : (most : ℕ) (text : List ℕ) → (0 < length text → is_white (
 unfolding number_at_most
 no_word most text white = rw (word_ends text 0 refl (omega arith) white).1 refl
 
-pub ruleset digit_steps =
-    (word_fails, word_worth, word_ends, digits_more, digits_value_more, nat_tests, take_rest, drop_all)
+value_of : (x : ℕ) → is_ascii_digit x ≡ true → digit_value x ≡ x - 48
+value_of x h = grind (arith, nat_tests)
+
+-- digits of a text that were read and are worth v, and what is left of the text
+pub record IsRead (text rest : List ℕ) (v : ℕ) : Type 0 where
+  pub place : ℕ
+  pub within : place ≤ length text
+  pub left : rest ≡ drop place text
+  pub digits : AreDigits (take place text)
+  pub value : v ≡ digits_value 10 (take place text)
+
+pub none_read : (text : List ℕ) → IsRead text text 0
+none_read text = record { place = 0; within = omega arith; left = refl; digits = refl; value = refl }
+
+module _ (most : ℕ) (text rest : List ℕ) (v : ℕ) (r : IsRead text rest v) where
+  some_left : 0 < length rest → r.place < length text
+  some_left some = omega (arith, ap length r.left, length-drop r.place text)
+
+  next_byte : get_or rest 0 0 ≡ get_or text r.place 0
+  next_byte = rw (r.left, get_or-drop r.place text 0 0, add-zero) refl
+
+  pub digit_read : 0 < length rest → is_ascii_digit (get_or rest 0 0) ≡ true
+      → IsRead text (drop 1 rest) (v * 10 + (get_or rest 0 0 - 48))
+  digit_read some digit =
+      let inside = some_left some in
+      record {
+        place = r.place + 1;
+        within = omega (arith, inside);
+        left = ap (drop 1) r.left ∙ drop-drop 1 r.place text;
+        digits = digits_more text r.place r.digits inside (ap is_ascii_digit (sym next_byte) ∙ digit);
+        value = rw (← value_of _ digit, next_byte, r.value) (sym (digits_value_more 10 text r.place inside));
+      }
+
+  -- a whitespace byte is next, or none
+  pub word_read : 0 < length (first_word text) → v ≤ most → (0 < length rest → is_white (get_or rest 0 0) ≡ true)
+      → (number_at_most most (first_word text) ≡ Some v) × (after_word text ≡ drop 1 rest)
+  word_read filled small end =
+      let ends = word_ends text r.place r.digits r.within
+      (λ inside. ap is_white (sym next_byte) ∙ end (omega (arith, ap length r.left, length-drop r.place text, inside))) in (
+        rw (ends.1, r.value)
+            (number-some most (take r.place text) r.digits (rw (← ends.1) filled) (rw (← r.value) small)),
+        ends.2 ∙ sym (ap (drop 1) r.left ∙ drop-drop 1 r.place text),
+      )
+
+  -- a byte that is neither a digit nor white is next
+  pub other_read : 0 < length rest → is_ascii_digit (get_or rest 0 0) ≡ false → is_white (get_or rest 0 0) ≡ false
+      → number_at_most most (first_word text) ≡ None
+  other_read some fails other =
+      number-other most (first_word text) (word_fails text r.place r.digits (some_left some)
+      (ap is_ascii_digit (sym next_byte) ∙ fails) (ap is_white (sym next_byte) ∙ other)).1
+
+  -- a digit is next by which the number is above `most`
+  pub large_read : 0 < length rest → is_ascii_digit (get_or rest 0 0) ≡ true
+      → most < v * 10 + (get_or rest 0 0 - 48) → number_at_most most (first_word text) ≡ None
+  large_read some digit large =
+      let worth = word_worth text r.place r.digits (some_left some) (ap is_ascii_digit (sym next_byte) ∙ digit) in
+      number-large most (first_word text)
+      (omega (arith, worth.1, rw (← value_of _ digit, next_byte, r.value) at large))

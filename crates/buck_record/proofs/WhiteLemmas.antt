@@ -1,10 +1,10 @@
 -- White bytes, and texts without them at their ends.
-use Rattle.std.proofs.Common.{◌≡◌, ℕ, ◌+◌, ◌-◌, ◌<◌, false, true, List, [], ◌∷◌, get_or, length, reverse, take, refl, ap, ◌∙◌, arith, inl, inr, ◌⊎◌, rules}
+use Rattle.std.proofs.Common.{◌≡◌, ℕ, ◌+◌, ◌-◌, ◌<◌, false, true, List, [], ◌∷◌, get_or, length, reverse, take, drop, refl, sym, ap, ◌∙◌, arith, inl, inr, ◌⊎◌, rules}
 use Rattle.std.specs.List.{suffix_len, prefix_len}
 use Rattle.std.proofs.Math.Nat.{add-zero}
 use Rattle.std.proofs.lemmas.Bool.{cases_lt}
 use Rattle.std.proofs.lemmas.Grind.{common_steps}
-use Rattle.std.proofs.lemmas.List.{take_all, get_or-take, take-take, length-take-le, length-drop, get_or-drop, drop_all, get_or-reverse, length-reverse}
+use Rattle.std.proofs.lemmas.List.{take_all, get_or-take, take-take, length-take-le, length-drop, get_or-drop, drop_all, take_rest, get_or-reverse, length-reverse}
 use Rattle.std.proofs.lemmas.List.Sums.{suffix_len_is, suffix_len-take_yes, prefix_len_stops}
 use Rattle.buck_record.specs.bytes.White.{is_white, trim}
 unfoldable use Rattle.buck_record.specs.bytes.White.{trim_start, trim_end}
@@ -13,6 +13,11 @@ unfoldable use Rattle.buck_record.specs.bytes.White.{trim_start, trim_end}
 pub start_white : (w : ℕ) (xs : List ℕ) → is_white w ≡ true → trim_start (w ∷ xs) ≡ trim_start xs
 unfolding trim_start
 start_white w xs h = grind (arith, common_steps)
+
+pub start_past : (xs : List ℕ) → 0 < length xs → is_white (get_or xs 0 0) ≡ true
+    → trim_start (take (length xs - 1) (drop 1 xs)) ≡ trim_start xs
+start_past [] some white = absurd (omega arith)
+start_past (x ∷ xs) some white = ap trim_start (take_rest (x ∷ xs) 1) ∙ sym (start_white x xs white)
 
 pub end_past : (xs : List ℕ) → 0 < length xs → is_white (get_or xs (length xs - 1) 0) ≡ true
     → trim_end (take (length xs - 1) xs) ≡ trim_end xs

@@ -18,7 +18,7 @@ pub(crate) fn is_past(most: u64, number: u64, digit: u64) -> bool
 
 /// Reads the number that a text begins with, in one pass over its digits: the value of the text's first word, and the
 /// bytes after the whitespace byte that ends the word. `None` if the word is no number, or one above `most`.
-#[tactic(auto, using(crate::proofs::NumberLemmas::digit_steps), unfolding(crate::specs::bytes::Record::number_at_most))]
+#[tactic(auto, using(crate::proofs::NumberLemmas::none_read))]
 #[inline(always)]
 pub(crate) fn cut_number(most: u64, text: &[u8]) -> Option<(u64, &[u8])>
     requires { 0 < length (first_word text.now) }
@@ -28,7 +28,8 @@ pub(crate) fn cut_number(most: u64, text: &[u8]) -> Option<(u64, &[u8])>
 {
     // Not the library's `parse`: it accepts a plus sign, and takes text, not bytes.
     let mut value: u64 = 0;
-    for (i, byte) in text.iter().enumerate() {
+    let mut rest = text;
+    while let [byte, after @ ..] = rest {
         if byte.is_ascii_digit() {
             let digit = u64::from(*byte - b'0');
             if is_past(most, value, digit) {
@@ -36,12 +37,13 @@ pub(crate) fn cut_number(most: u64, text: &[u8]) -> Option<(u64, &[u8])>
             }
             value = value * 10 + digit;
         } else if is_white(*byte) {
-            return Some((value, &text[i + 1..]));
+            return Some((value, after));
         } else {
             return None;
         }
+        rest = after;
     }
-    Some((value, &text[text.len()..]))
+    Some((value, rest))
 }
 
 /// The number of at most `most` that is a text's first word, and the bytes after the whitespace that ends the word.

@@ -37,7 +37,10 @@ pub(crate) fn read_piece<'a>(piece: &'a [u8]) -> Option<Piece<'a>>
 
 /// The items of a file's bytes, as [`pieces`] has them: every one, or those that stand in one of the slots. All others
 /// are read and left out.
+// Inlined, as its callers are: the slots of a table are constants then, and one comparison passes over most items of no
+// table.
 #[tactic(auto, using(crate::proofs::EachLemmas::piece_steps))]
+#[inline(always)]
 fn pieces_kept<'a>(
     alloc: Global,
     bytes: &'a [u8],
@@ -80,6 +83,7 @@ pub fn pieces<'a>(alloc: Global, bytes: &'a [u8]) -> Result<Vec<Piece<'a>>, Reco
 /// out, and take no memory.
 ///
 /// Refused as [`pieces`] refuses: as `Head` with the least item, counted from 1 among all, that has no head.
+#[inline(always)]
 pub fn pieces_at<'a>(
     alloc: Global,
     bytes: &'a [u8],
@@ -119,7 +123,7 @@ pub fn items(alloc: Global, bytes: &[u8]) -> Result<Vec<Item>, RecordFault>
 }
 
 /// The numbers of a text: its words, separated by whitespace, each of one or more digits and at most 4,294,967,295.
-/// Leading zeros are accepted, and a text of no words gives no numbers.
+/// Leading zeros are accepted, and a text of no words gives no numbers. The list may have room for more.
 ///
 /// Refused as `Digits` with the place of the first word, counted from 1, that is no such number, and as `Memory`
 /// if memory runs out.

@@ -10,15 +10,18 @@ pub fn is_white(byte: u8) -> bool
 }
 
 /// The bytes from the first that is not white on.
+#[tactic(auto, using(crate::proofs::WhiteLemmas::start_past, crate::proofs::WhiteLemmas::start_dark))]
 pub(crate) fn trim_start(bytes: &[u8]) -> &[u8]
     ensures { result.now ≡ trim_start bytes.now }
 {
-    for i in 0..bytes.len() {
-        if !is_white(bytes[i]) {
-            return &bytes[i..];
+    let mut rest = bytes;
+    while let [first, after @ ..] = rest {
+        if !is_white(*first) {
+            return rest;
         }
+        rest = after;
     }
-    &bytes[bytes.len()..]
+    rest
 }
 
 /// The bytes up to the last that is not white.

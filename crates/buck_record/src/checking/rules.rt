@@ -38,6 +38,7 @@ pub fn items_in<'a, E: From<AllocError>, F: FnOnce(usize) -> E>(
 }
 
 /// The items of a file's bytes that stand in one of the slots, as [`pieces_at`] has them, with the faults of a form.
+#[inline(always)]
 pub fn items_at<'a, E: FormFault>(
     alloc: Global,
     bytes: &'a [u8],

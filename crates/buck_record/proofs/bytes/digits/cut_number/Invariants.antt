@@ -1,12 +1,13 @@
-use Rattle.std.proofs.Common.{◌≡◌, ◌≤◌, take}
-use Rattle.std.specs.Str.Parse.{digits_value}
-use Rattle.buck_record.proofs.NumberLemmas.{AreDigits}
+use Rattle.std.proofs.Common.{◌≤◌, length}
+use Rattle.buck_record.proofs.NumberLemmas.{IsRead}
 use Rattle.buck_record.proofs.bytes.digits.cut_number.Given as goal
 
 -- the bytes so far are digits, and the value is theirs and within its limit
-abbrev pub invariant-loop-i : goal.invariant-loop-i
-invariant-loop-i l = record {
-  digits : AreDigits (take l.i l.text);
-  value : l.value ≡ digits_value 10 (take l.i l.text);
+abbrev pub invariant-loop-rest : goal.invariant-loop-rest
+invariant-loop-rest l = record {
+  read : IsRead l.text l.rest l.value;
   small : l.value ≤ l.most;
 }
+
+abbrev pub decreases-loop-rest : goal.decreases-loop-rest
+decreases-loop-rest l = length l.rest
