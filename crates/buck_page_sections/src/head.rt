@@ -47,6 +47,5 @@ pub fn begin_page(alloc: Global, title: &str) -> Result<String, Memory> {
 pub const PAGE_END: &str = "\n</body>\n</html>\n";
 
 /// The sign of a verdict, up to its path.
-pub const SIGN: &str =
-    "<svg viewBox=\"0 0 20 20\" width=\"20\" height=\"20\" aria-hidden=\"true\">\
+pub const SIGN: &str = "<svg viewBox=\"0 0 20 20\" width=\"20\" height=\"20\" aria-hidden=\"true\">\
      <circle cx=\"10\" cy=\"10\" r=\"10\"/><path d=";

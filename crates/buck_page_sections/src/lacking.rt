@@ -57,11 +57,7 @@ fn write_lack(out: &mut String, figures: &Figures<'_>, lack: &Lack) -> Result<()
 }
 
 /// Writes the section of the classes that lack most, if one lacks and something was cut. Refused as `Memory` alone.
-pub fn write_lacking(
-    alloc: Global,
-    out: &mut String,
-    figures: &Figures<'_>,
-) -> Result<(), Memory> {
+pub fn write_lacking(alloc: Global, out: &mut String, figures: &Figures<'_>) -> Result<(), Memory> {
     let found = lacking(alloc, figures)?;
     if found.is_empty() {
         return Ok(());
