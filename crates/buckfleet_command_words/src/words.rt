@@ -157,8 +157,26 @@ fn asked_stems<'a>(alloc: Global, words: &ArgMatches<'a>) -> Result<Vec<&'a str>
     }
 }
 
+/// What the words after `buck` ask for.
+fn buck_work<'a>(words: &ArgMatches<'a>) -> Result<Work<'a>, Unasked> {
+    Ok(Work::Buck(BuckTask {
+        apt: word(words, "APT")?,
+        stm: word(words, "STM")?,
+        threads: asked_threads(words)?,
+    }))
+}
+
+/// What the words after `report` ask for.
+fn report_work<'a>(words: &ArgMatches<'a>) -> Result<Work<'a>, Unasked> {
+    Ok(Work::Plain(Task::Report {
+        apt: word(words, "APT")?,
+        journal: word(words, "JOURNAL")?,
+        settings: settings(words)?,
+    }))
+}
+
 /// What the words after `fleet` ask for.
-fn fleet_task<'a>(alloc: Global, words: &ArgMatches<'a>) -> Result<FleetTask<'a>, Unasked> {
+fn fleet_work<'a>(alloc: Global, words: &ArgMatches<'a>) -> Result<Work<'a>, Unasked> {
     let Some(rule) = NamedRule::of_name(word(words, "rule")?) else {
         return Err(Unasked::Wrong(LOST));
     };
@@ -168,7 +186,7 @@ fn fleet_task<'a>(alloc: Global, words: &ArgMatches<'a>) -> Result<FleetTask<'a>
     if is_input(journal, apt, stms.as_slice()) {
         return Err(Unasked::Wrong(EATEN));
     }
-    Ok(FleetTask {
+    Ok(Work::Fleet(FleetTask {
         order: if words.get_flag("in-turn") {
             Order::InTurn
         } else {
@@ -179,7 +197,7 @@ fn fleet_task<'a>(alloc: Global, words: &ArgMatches<'a>) -> Result<FleetTask<'a>
         journal,
         apt,
         stms,
-    })
+    }))
 }
 
 /// The most runs that a table may have.
@@ -340,39 +358,43 @@ fn sweep_work<'a>(alloc: Global, words: &ArgMatches<'a>) -> Result<Work<'a>, Una
 }
 
 /// What the words after `wishes` ask for.
-fn wishes_task<'a>(alloc: Global, words: &ArgMatches<'a>) -> Result<WishesTask<'a>, Unasked> {
+fn wishes_work<'a>(alloc: Global, words: &ArgMatches<'a>) -> Result<Work<'a>, Unasked> {
     let Some(rule) = NamedRule::of_name(word(words, "rule")?) else {
         return Err(Unasked::Wrong(LOST));
     };
-    Ok(WishesTask {
+    let settings = settings(words)?;
+    let apt = word(words, "APT")?;
+    let draws = asked_draws(words)?;
+    let threads = asked_threads(words)?;
+    Ok(Work::Wishes(WishesTask {
         rule,
-        settings: settings(words)?,
-        apt: word(words, "APT")?,
+        settings,
+        apt,
         stms: asked_stems(alloc, words)?,
         targets: words.get_str("targets"),
-        draws: asked_draws(words)?,
-        threads: asked_threads(words)?,
-    })
+        draws,
+        threads,
+    }))
 }
 
 /// What the words after `tune` ask for.
-fn tune_task<'a>(alloc: Global, words: &ArgMatches<'a>) -> Result<TuneTask<'a>, Unasked> {
+fn tune_work<'a>(alloc: Global, words: &ArgMatches<'a>) -> Result<Work<'a>, Unasked> {
     let Some(rule) = NamedRule::of_name(word(words, "rule")?) else {
         return Err(Unasked::Wrong(LOST));
     };
     let threads = asked_threads(words)?;
-    Ok(TuneTask {
+    Ok(Work::Tune(TuneTask {
         rule,
         settings: settings(words)?,
         apt: word(words, "APT")?,
         stms: asked_stems(alloc, words)?,
         targets: words.get_str("targets"),
         threads,
-    })
+    }))
 }
 
 /// What the words after `live` ask for.
-fn live_task<'a>(words: &ArgMatches<'a>) -> Result<LiveTask<'a>, Unasked> {
+fn live_work<'a>(words: &ArgMatches<'a>) -> Result<Work<'a>, Unasked> {
     let Some(rule) = NamedRule::of_name(word(words, "rule")?) else {
         return Err(Unasked::Wrong(LOST));
     };
@@ -384,12 +406,12 @@ fn live_task<'a>(words: &ArgMatches<'a>) -> Result<LiveTask<'a>, Unasked> {
     if is_input(journal, apt, &[]) {
         return Err(Unasked::Wrong(EATEN));
     }
-    Ok(LiveTask {
+    Ok(Work::Live(LiveTask {
         rule,
         settings: settings(words)?,
         journal,
         apt,
-    })
+    }))
 }
 
 /// The rule that an argument names, if it is there.
@@ -404,20 +426,19 @@ fn asked_rule(name: Option<&str>) -> Result<Option<NamedRule>, Unasked> {
 }
 
 /// What the words after `check` ask for.
-fn check_task<'a>(alloc: Global, words: &ArgMatches<'a>) -> Result<CheckTask<'a>, Unasked> {
+fn check_work<'a>(alloc: Global, words: &ArgMatches<'a>) -> Result<Work<'a>, Unasked> {
     let rule = asked_rule(words.get_str("rule"))?;
     let apt = word(words, "APT")?;
     let journal = word(words, "JOURNAL")?;
     let stms = words.get_strs("STM").unwrap_or(&[]);
-    Ok(CheckTask {
-        by: CrossCheck {
-            rule,
-            settings: settings(words)?,
-        },
+    let settings = settings(words)?;
+    let threads = asked_threads(words)?;
+    Ok(Work::Check(CheckTask {
+        by: CrossCheck { rule, settings },
         apt,
         files: names(alloc, &[journal], stms)?,
-        threads: asked_threads(words)?,
-    })
+        threads,
+    }))
 }
 
 /// The names of 1 to 64 journals that the words have.
@@ -431,42 +452,42 @@ fn asked_journals<'a>(alloc: Global, words: &ArgMatches<'a>) -> Result<Vec<&'a s
     Ok(journals)
 }
 
-/// What the words after `view` and `table` ask for.
-fn view_task<'a>(
-    alloc: Global,
-    words: &ArgMatches<'a>,
-    shown: Shown,
-) -> Result<ViewTask<'a>, Unasked> {
+/// What the words after `view` ask for, or those after `table`.
+fn view_work<'a>(alloc: Global, words: &ArgMatches<'a>, shown: Shown) -> Result<Work<'a>, Unasked> {
     let apt = word(words, "APT")?;
     let settings = settings(words)?;
     let threads = asked_threads(words)?;
     let journals = asked_journals(alloc, words)?;
-    Ok(ViewTask {
+    Ok(Work::View(ViewTask {
         apt,
         journals,
         shown,
         settings,
         threads,
-    })
+    }))
 }
 
-/// The table that the words after `table` ask for.
-fn table_word(words: &ArgMatches<'_>) -> Result<Table, Unasked> {
+/// What the words after `table` ask for.
+fn table_work<'a>(alloc: Global, words: &ArgMatches<'a>) -> Result<Work<'a>, Unasked> {
     match named_table(word(words, "TABLE")?) {
-        Some(table) => Ok(table),
+        Some(table) => view_work(alloc, words, Shown::Table(table)),
         None => Err(Unasked::Wrong(LOST)),
     }
 }
 
 /// What the words after `appraise` ask for.
-fn appraise_task<'a>(alloc: Global, words: &ArgMatches<'a>) -> Result<AppraiseTask<'a>, Unasked> {
-    Ok(AppraiseTask {
-        settings: settings(words)?,
-        apt: word(words, "APT")?,
+fn appraise_work<'a>(alloc: Global, words: &ArgMatches<'a>) -> Result<Work<'a>, Unasked> {
+    let settings = settings(words)?;
+    let apt = word(words, "APT")?;
+    let own = word(words, "OWN")?;
+    let threads = asked_threads(words)?;
+    Ok(Work::Appraise(AppraiseTask {
+        settings,
+        apt,
         journals: asked_journals(alloc, words)?,
-        own: word(words, "OWN")?,
-        threads: asked_threads(words)?,
-    })
+        own,
+        threads,
+    }))
 }
 
 /// Of one or two numbers, that of the journal at a place.
@@ -494,46 +515,35 @@ fn settings_at(
 }
 
 /// What the words after `compare` ask for.
-fn compare_task<'a>(alloc: Global, words: &ArgMatches<'a>) -> Result<CompareTask<'a>, Unasked> {
+fn compare_work<'a>(alloc: Global, words: &ArgMatches<'a>) -> Result<Work<'a>, Unasked> {
     let periods = numbers_after(alloc, words, "period")?;
     let limits = numbers_after(alloc, words, "limit")?;
     let periods = periods.as_slice();
     let limits = limits.as_slice();
-    Ok(CompareTask {
+    Ok(Work::Compare(CompareTask {
         first: settings_at(periods, limits, 0)?,
         second: settings_at(periods, limits, 1)?,
         apt: word(words, "APT")?,
         journals: [word(words, "JOURNAL")?, word(words, "OTHER")?],
         threads: asked_threads(words)?,
-    })
+    }))
 }
 
 /// The work that the words after a command's name ask for.
 fn work_of<'a>(alloc: Global, name: &str, words: &ArgMatches<'a>) -> Result<Work<'a>, Unasked> {
     match name {
-        "buck" => Ok(Work::Buck(BuckTask {
-            apt: word(words, "APT")?,
-            stm: word(words, "STM")?,
-            threads: asked_threads(words)?,
-        })),
-        "check" => Ok(Work::Check(check_task(alloc, words)?)),
-        "report" => Ok(Work::Plain(Task::Report {
-            apt: word(words, "APT")?,
-            journal: word(words, "JOURNAL")?,
-            settings: settings(words)?,
-        })),
-        "fleet" => Ok(Work::Fleet(fleet_task(alloc, words)?)),
+        "buck" => buck_work(words),
+        "fleet" => fleet_work(alloc, words),
+        "check" => check_work(alloc, words),
+        "report" => report_work(words),
+        "view" => view_work(alloc, words, Shown::Page),
+        "table" => table_work(alloc, words),
+        "live" => live_work(words),
         "sweep" => sweep_work(alloc, words),
-        "wishes" => Ok(Work::Wishes(wishes_task(alloc, words)?)),
-        "tune" => Ok(Work::Tune(tune_task(alloc, words)?)),
-        "live" => Ok(Work::Live(live_task(words)?)),
-        "view" => Ok(Work::View(view_task(alloc, words, Shown::Page)?)),
-        "table" => {
-            let shown = Shown::Table(table_word(words)?);
-            Ok(Work::View(view_task(alloc, words, shown)?))
-        }
-        "appraise" => Ok(Work::Appraise(appraise_task(alloc, words)?)),
-        "compare" => Ok(Work::Compare(compare_task(alloc, words)?)),
+        "wishes" => wishes_work(alloc, words),
+        "tune" => tune_work(alloc, words),
+        "appraise" => appraise_work(alloc, words),
+        "compare" => compare_work(alloc, words),
         _ => Err(Unasked::Wrong(LOST)),
     }
 }
