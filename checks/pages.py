@@ -78,7 +78,7 @@ PROMISES = [
             "buckfleet_engine::serve_fleet",
         ],
     ),
-    ("before a harvest and after it", ["buckfleet_tasks::*", "buckfleet_trial_sweep::*", "buckfleet_trial_draws::*", "buckfleet_terms_files::*", "buckfleet_trial::*", "buckfleet_trial_owned::*", "buckfleet_proceeds::*"]),
+    ("before a harvest and after it", ["buckfleet_tasks::*", "buckfleet_trial_sweep::*", "buckfleet_trial_draws::*", "buckfleet_terms_files::*", "buckfleet_trial::*", "buckfleet_trial_wishes::*", "buckfleet_trial_tune::*", "buckfleet_trial_owned::*", "buckfleet_proceeds::*"]),
     ("the words of the program", ["buckfleet_command::serve_work"]),
     ("the world and its runs", ["buck_fleet_world::*"]),
     ("the library that C calls", ["buck_c_calls::*", "buck_c::*"]),

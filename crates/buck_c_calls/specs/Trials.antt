@@ -3,8 +3,8 @@ use Rattle.std.specs.Prelude.{◌+◌, ℕ, List, [], ◌∷◌, length, min, Op
 use Rattle.std.specs.List.{AllZip}
 use Rattle.buckfleet_tasks.specs.declared.combination.Combination.{Combination}
 use Rattle.buckfleet_trial.specs.Trial.{AnswersTrial}
-use Rattle.buckfleet_trial.specs.Tune.{AnswersTune}
-use Rattle.buckfleet_trial.specs.Wishes.{AnswersWishes}
+use Rattle.buckfleet_trial_tune.specs.Tune.{AnswersTune}
+use Rattle.buckfleet_trial_wishes.specs.Wishes.{AnswersWishes}
 use Rattle.buck_c_calls.specs.declared.asked.DrawnRun.{DrawnRun}
 use Rattle.buck_c_calls.specs.declared.asked.Orders.{Orders}
 use Rattle.buck_c_calls.specs.declared.asked.Run.{Run}

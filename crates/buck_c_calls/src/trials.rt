@@ -9,7 +9,9 @@ ghost use Rattle.buck_c_calls.specs.inner.Stopped.{Tells};
 use crate::asked::{DrawnRun, DrawnRuns, Run, combination_of, combinations_of, draws_of};
 use crate::several::{Handed, Stop, ended, hand_over, put_answer};
 use buckfleet_engine_files::{Nobody, OneThread};
-use buckfleet_trial::{Opened, TrialTask, TuneTask, WishesTask, run_trial, run_tune, run_wishes};
+use buckfleet_trial::{Opened, TrialTask, run_trial};
+use buckfleet_trial_tune::{TuneTask, run_tune};
+use buckfleet_trial_wishes::{WishesTask, run_wishes};
 use std::alloc::Global;
 
 /// The number of the file behind so many others and an instruction file, which is file 0.

@@ -9,7 +9,9 @@ use Rattle.buckfleet_engine_cross_check.specs.Serving.{RunsCheck}
 use Rattle.buckfleet_live.specs.Serving.{RunsLive}
 use Rattle.buckfleet_trial_sweep.specs.Serving.{RunsSweep}
 use Rattle.buckfleet_trial_owned.specs.Owned.{RunsOwned}
-use Rattle.buckfleet_trial.specs.Serving.{RunsTrial, RunsTune, RunsWishes}
+use Rattle.buckfleet_trial.specs.Serving.{RunsTrial}
+use Rattle.buckfleet_trial_tune.specs.Serving.{RunsTune}
+use Rattle.buckfleet_trial_wishes.specs.Serving.{RunsWishes}
 use Rattle.buckfleet_proceeds.specs.Serving.{RunsAppraise, RunsCompare}
 use Rattle.buckfleet_terms_files.specs.declared.fault.TermsFault.{TermsFault}
 use Rattle.buckfleet_terms_files.specs.declared.fault.TermsFault.TheVariants.{Run, Targets, Own}

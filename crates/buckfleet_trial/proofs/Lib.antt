@@ -1,15 +1,8 @@
 pub mod Each
-pub mod Pieces
-pub mod MovedLemmas
-pub mod Targets
 pub mod Orders
 pub mod Lights
 pub mod Lined
 pub mod Ended
-pub mod Wished
-pub mod Ranked
-pub mod Gains
 pub mod ReadLemmas
 pub mod RunLemmas
 pub mod Spreads
-pub mod Tuned

@@ -1,11 +1,12 @@
 -- Lists that are cut without a journal, and what that is worth.
-use Rattle.std.proofs.Common.{◌≡◌, ℕ, ◌+◌, ◌*◌, ◌<◌, ◌≤◌, List, [], ◌∷◌, ◌++◌, length, take, get_or, sum, sum_by, Option, Some, refl, sym, ap, subst, ◌∙◌, arith}
+use Rattle.std.proofs.Common.{◌≡◌, ℕ, ◌+◌, ◌*◌, ◌<◌, ◌≤◌, List, [], ◌∷◌, ◌++◌, length, take, get_or, sum, sum_by, Option, Some, Result, Ok, Err, IfOk, refl, sym, ap, subst, ◌∙◌, arith}
 use Rattle.std.specs.Prelude.{slice_get}
 use Rattle.std.specs.List.{AllZip}
 use Rattle.std.specs.declared.sync.Arc.{Arc}
 use Rattle.std.specs.declared.vec.Vec.{Vec}
 use Rattle.std.specs.declared.alloc.Global.{Global}
 use Rattle.std.proofs.lemmas.List.Sums.{sum_by_more, sum_by_push}
+use Rattle.buck_apt.specs.Instruction.{InstructionParts}
 use Rattle.buck_stem.specs.declared.stem.Stem.{Stem}
 use Rattle.buck_stem.specs.Stem.{StemParts}
 use Rattle.buck_value.specs.declared.log.Log.{Log}
@@ -20,11 +21,12 @@ use Rattle.buck_book_postings.specs.History.{HistoryParts, IsLawful}
 use Rattle.buck_book_postings.specs.Pricing.{AreSheetsBy, Calls}
 use Rattle.buck_page_figures.specs.Figures.{base_sheet}
 use Rattle.buck_fleet_round_robin.specs.Turn.{HasCutInTurn}
+use Rattle.buckfleet_engine_files.specs.declared.fault.EngineFault.{EngineFault}
 use Rattle.buckfleet_engine_files.proofs.Ruled.{follows_rule}
 use Rattle.buckfleet_trial_sweep.specs.Runs.{HasCut}
 use Rattle.buckfleet_trial_sweep.specs.Table.{IsLeast}
 use Rattle.buckfleet_trial_sweep.proofs.Lesser.{least_more}
-use Rattle.buckfleet_trial.specs.Light.{IsBestWorth, lesser}
+use Rattle.buckfleet_trial.specs.Light.{AreDrawn, AreOrdered, HasCutOf, IsBestWorth, lesser}
 use Rattle.buckfleet_trial.specs.inner.Worth.{IsCutUnder}
 use Rattle.buckfleet_trial.proofs.Each.{one_taken, zip_taken}
 
@@ -41,6 +43,22 @@ cut_is g f rule lists b h same book cut gives by =
       cut = cut;
       by_rule = follows_rule g f rule b.history gives book.lawful by;
     })
+
+-- what is cut in the order of a draw
+pub cut_drawn : (rule : NamedRule) (i : InstructionParts)
+    (lists slice ordered other : List (Vec (Arc Stem Global) Global)) (start : ℕ) (order : Option ℕ)
+    (r : Result HistoryParts EngineFault) → order ≡ Some start → slice ≡ lists
+    → AreDrawn start slice ordered → other ≡ ordered → IfOk r (λ h. h.instruction ≡ i) → IfOk r (HasCut rule other)
+    → IfOk r (HasCutOf rule i lists order)
+cut_drawn rule i lists slice ordered other start order (Err e) is same drawn shown own cut = tt
+cut_drawn rule i lists slice ordered other start order (Ok h) is same drawn shown own cut = record {
+  ordered = ordered;
+  are_ordered =
+      subst (λ (o : Option ℕ). AreOrdered o lists ordered) (sym is)
+      (subst (λ (l : List (Vec (Arc Stem Global) Global)). AreDrawn start l ordered) same drawn);
+  instruction = own;
+  has_cut = subst (λ (l : List (Vec (Arc Stem Global) Global)). HasCut rule l h) shown cut;
+}
 
 -- a posting of a lawful history may be cut at base prices
 pub lawful_under : (h : HistoryParts) (base : SheetParts) (k : ℕ) (x : Posting) → IsLawful h

@@ -4,8 +4,5 @@ pub mod Parts
 pub mod Running
 pub mod Inputs
 pub mod Trial
-pub mod WishLine
-pub mod Wishes
-pub mod Tune
 pub mod Serving
 pub mod inner

@@ -12,7 +12,10 @@ use Rattle.buck_value.specs.declared.log.Log.{Log}
 use Rattle.buck_value.specs.Sheet.{SheetParts}
 use Rattle.buck_dp.specs.Best.{IsFirstBest, cutting_worth}
 use Rattle.buck_book_postings.specs.Degree.{IsDegreeBy}
+use Rattle.buck_book_postings.specs.History.{HistoryParts}
 use Rattle.buck_book_postings.specs.Replies.{stems_of}
+use Rattle.buck_rule.specs.declared.named.NamedRule.{NamedRule}
+use Rattle.buckfleet_trial_sweep.specs.Runs.{HasCut}
 use Rattle.buckfleet_trial_draws.specs.Draws.{order_of}
 
 -- the lesser of two numbers, or the only one
@@ -33,6 +36,19 @@ all_stems lists = map (λ list. stems_of list.items) lists
 -- lists in the order of the draw that begins at a state
 abbrev pub AreDrawn : ℕ → List (Vec (Arc Stem Global) Global) → List (Vec (Arc Stem Global) Global) → Type 0
 AreDrawn start lists order = all_stems order ≡ order_of start (all_stems lists)
+
+-- lists in the files' own order, or in that of the draw that begins at a state
+abbrev pub AreOrdered : Option ℕ → List (Vec (Arc Stem Global) Global) → List (Vec (Arc Stem Global) Global) → Type 0
+AreOrdered None lists order = order ≡ lists
+AreOrdered (Some start) lists order = AreDrawn start lists order
+
+-- what a run of an instruction by a rule in an order cuts
+pub record HasCutOf (rule : NamedRule) (i : InstructionParts) (lists : List (Vec (Arc Stem Global) Global))
+    (order : Option ℕ) (history : HistoryParts) : Type 0 where
+  pub ordered : List (Vec (Arc Stem Global) Global)
+  pub are_ordered : AreOrdered order lists ordered
+  pub instruction : history.instruction ≡ i
+  pub has_cut : HasCut rule ordered history
 
 -- what the best cutting of a stem under a sheet is worth
 abbrev pub IsBestWorth : SheetParts → StemParts → ℕ → Type 0

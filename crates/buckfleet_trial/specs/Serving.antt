@@ -9,11 +9,7 @@ use Rattle.buckfleet_trial.specs.declared.reading.Opened.{Opened}
 use Rattle.buckfleet_tasks.specs.declared.trials.TrialTask.{TrialTask}
 use Rattle.buckfleet_trial.specs.Inputs.{AnswersFiles, held_with}
 use Rattle.buckfleet_terms_files.specs.Telling.{WritesTerms}
-use Rattle.buckfleet_tasks.specs.declared.trials.TuneTask.{TuneTask}
-use Rattle.buckfleet_tasks.specs.declared.trials.WishesTask.{WishesTask}
 use Rattle.buckfleet_trial.specs.Trial.{AnswersTrial}
-use Rattle.buckfleet_trial.specs.Tune.{AnswersTune}
-use Rattle.buckfleet_trial.specs.Wishes.{AnswersWishes}
 
 -- a run over the files that were opened; if one can't be, nothing is written
 abbrev pub RunsOpened : {F : Type 0} → (Opened F → Result (List ℕ) TermsFault → Type 0)
@@ -30,27 +26,11 @@ pub record RunsFiles {O F : Type 0} (opens : O → List ℕ → Option F → O �
   pub answers : AnswersFiles opens start end apt stms targets opened
   pub runs : RunsOpened Answers opened old new outcome
 
--- that of a trial, that of wishes, and that of an instruction that is tuned
+-- that of a trial
 abbrev pub RunsTrial : {O F : Type 0} → (O → List ℕ → Option F → O → Type 0) → (F → Option (List ℕ)) → O → O
     → TrialTask → Option (List ℕ) → Option (List ℕ) → Result (Unit {0}) TermsFault → Type 0
 RunsTrial opens held start end task old new outcome =
     RunsFiles opens
     (λ files. AnswersTrial task.combinations.items task.draws (held files.apt) (map held files.stms.items)
-    (held_with held files.targets)) start end task.apt.now (map (λ s. s.now) task.stms.items)
-    (option_map (λ s. s.now) task.targets) old new outcome
-
-abbrev pub RunsWishes : {O F : Type 0} → (O → List ℕ → Option F → O → Type 0) → (F → Option (List ℕ)) → O → O
-    → WishesTask → Option (List ℕ) → Option (List ℕ) → Result (Unit {0}) TermsFault → Type 0
-RunsWishes opens held start end task old new outcome =
-    RunsFiles opens
-    (λ files. AnswersWishes task.rule task.settings task.draws (held files.apt) (map held files.stms.items)
-    (held_with held files.targets)) start end task.apt.now (map (λ s. s.now) task.stms.items)
-    (option_map (λ s. s.now) task.targets) old new outcome
-
-abbrev pub RunsTune : {O F : Type 0} → (O → List ℕ → Option F → O → Type 0) → (F → Option (List ℕ)) → O → O
-    → TuneTask → Option (List ℕ) → Option (List ℕ) → Result (Unit {0}) TermsFault → Type 0
-RunsTune opens held start end task old new outcome =
-    RunsFiles opens
-    (λ files. AnswersTune task.rule task.settings (held files.apt) (map held files.stms.items)
     (held_with held files.targets)) start end task.apt.now (map (λ s. s.now) task.stms.items)
     (option_map (λ s. s.now) task.targets) old new outcome

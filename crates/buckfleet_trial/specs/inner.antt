@@ -1,4 +1,3 @@
 -- What the crate's own functions show one another.
 pub mod Worth
 pub mod Lines
-pub mod Asking

@@ -1,16 +1,13 @@
 //! The run of lists that are cut in turn, without a journal: what was cut, and what that is worth at base prices.
 ghost use Rattle.std.specs.Prelude.{◌≡◌, ◌<◌, ◌≤◌, ◌*◌, ◌^◌, IfErr, IfOk, length, sum_by};
 ghost use Rattle.buck_apt.specs.Instruction.{classes};
-ghost use Rattle.buck_apt.specs.Wanted.{MayBeWanted};
 ghost use Rattle.buck_rule.specs.GivenBy.{GivesBy};
 ghost use Rattle.buck_book_postings.specs.declared.posting.TheConstants.{MOST_POSTINGS};
-ghost use Rattle.buck_book_postings.specs.Posting.{opening_targets};
 ghost use Rattle.buck_page_figures.specs.Figures.{at_base_in, base_sheet};
 ghost use Rattle.buck_fleet_round_robin.specs.Turn.{stems_in_all};
 ghost use Rattle.buckfleet_trial_sweep.specs.Runs.{HasCut, IsStop};
 ghost use Rattle.buckfleet_trial_sweep.specs.Table.{IsLeast};
-ghost use Rattle.buckfleet_trial.specs.Light.{AreBest, AreBestOf, AreDegrees, lesser};
-ghost use Rattle.buckfleet_trial.specs.Wishes.{HasCutOf};
+ghost use Rattle.buckfleet_trial.specs.Light.{AreBest, AreBestOf, AreDegrees, HasCutOf, lesser};
 ghost use Rattle.buckfleet_trial.specs.inner.Worth.{IsCutUnder, worth_under};
 
 use buck_apt::Instruction;
@@ -47,8 +44,9 @@ fn cut_by_rule<F: Fn(&Standing) -> u64 + Drop>(
     }
 }
 
-/// Cuts lists of stems in turn by a named rule.
-pub(crate) fn cut_by_name(
+/// Cuts lists of stems in turn by a named rule, in the files' own order. `Full` if there are more stems than 1,000,000,
+/// and `Memory` if an allocation failed.
+pub fn cut_by_name(
     alloc: Global,
     instruction: &Arc<Instruction>,
     named: NamedRule,
@@ -96,8 +94,8 @@ fn posting_worth(base: &Sheet, posting: &Posting) -> u64
     }
 }
 
-/// What was cut is worth at base prices, in millionths of the price unit.
-pub(crate) fn base_worth(alloc: Global, parts: &Parts) -> Result<u128, Memory>
+/// What was cut is worth at base prices, in millionths of the price unit. Refused as `Memory` alone.
+pub fn base_worth(alloc: Global, parts: &Parts) -> Result<u128, Memory>
     ensures worth { IfOk result (λ worth.
         worth ≡ sum_by (at_base_in parts.now.instruction) parts.now.postings) }
     ensures low { IfOk result (λ worth. worth < 2 ^ 84) }
@@ -110,20 +108,9 @@ pub(crate) fn base_worth(alloc: Global, parts: &Parts) -> Result<u128, Memory>
     Ok(all)
 }
 
-/// The targets of an instruction, class by class.
-pub(crate) fn targets_of(alloc: Global, instruction: &Instruction) -> Result<Vec<u32>, Memory>
-    ensures targets { IfOk result (λ targets. targets.items ≡ opening_targets instruction.now) }
-    ensures valid { MayBeWanted instruction.now (opening_targets instruction.now) }
-{
-    let mut targets = Vec::new(alloc);
-    for assortment in instruction.assortments() {
-        targets.extend_from_slice(assortment.targets())?;
-    }
-    Ok(targets)
-}
-
-/// The degree of each assortment, given what is wanted and what was cut of each class.
-pub(crate) fn degrees_of(
+/// The degree of each assortment, one for each, in ten-thousandths, or None where there is none: given what is wanted
+/// and what was cut of each class, class by class of all assortments. Refused as `Memory` alone.
+pub fn degrees_of(
     alloc: Global,
     instruction: &Instruction,
     targets: &[u32],
@@ -151,8 +138,8 @@ fn lesser(one: Option<u32>, other: Option<u32>) -> Option<u32>
     }
 }
 
-/// The least of the degrees that are there.
-pub(crate) fn least_of(degrees: &[Option<u32>]) -> Option<u32>
+/// The least of the degrees that are there; None if none is.
+pub fn least_of(degrees: &[Option<u32>]) -> Option<u32>
     ensures { IsLeast degrees.now result }
 {
     let mut least = None;

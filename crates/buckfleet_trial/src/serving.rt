@@ -1,11 +1,10 @@
 //! Whole runs of trials: the files of a task, and its table.
-ghost use Rattle.buckfleet_trial.specs.Serving.{RunsTrial, RunsWishes};
+ghost use Rattle.buckfleet_trial.specs.Serving.{RunsTrial};
 
 use crate::reading::open_files;
 use crate::trial::run_trial_in_parts;
-use crate::wishes::run_wishes_in_parts;
 use buckfleet_engine_files::{Open, RunOnlooker};
-use buckfleet_tasks::{TrialTask, WishesTask};
+use buckfleet_tasks::TrialTask;
 use buckfleet_terms_files::TermsFault;
 use std::alloc::Global;
 use std::io;
@@ -28,22 +27,4 @@ pub fn serve_trial<T: Threads + Sync, L: RunOnlooker + Sync, O: Open, W: io::Wri
     let stms = task.stms.as_slice();
     let files = open_files(alloc, opener, task.apt, stms, task.targets)?;
     run_trial_in_parts(rt, alloc, task, onlooker, files, out)
-}
-
-/// Finds what each wish costs over the files of a task's names. The files are opened as by [`serve_trial`]; else the
-/// faults are those of [`run_wishes`](crate::run_wishes).
-pub fn serve_wishes<T: Threads + Sync, L: RunOnlooker + Sync, O: Open, W: io::Write>(
-    rt: &T,
-    alloc: Global,
-    task: &WishesTask<'_>,
-    onlooker: &L,
-    opener: &mut O,
-    out: &mut W,
-) -> Result<(), TermsFault>
-    ensures { RunsWishes O.opens O.File.remaining opener.old opener.new task.now
-        (W.contents out.old) (W.contents out.new) result }
-{
-    let stms = task.stms.as_slice();
-    let files = open_files(alloc, opener, task.apt, stms, task.targets)?;
-    run_wishes_in_parts(rt, alloc, task, onlooker, files, out)
 }

@@ -27,7 +27,7 @@ use Rattle.buckfleet_trial_owned.specs.declared.outcome.OwnRun.{OwnRun}
 use Rattle.buckfleet_trial.specs.declared.trial.Drawn.{Drawn}
 use Rattle.buckfleet_trial_owned.specs.Owned.{AreLosses, IsOwnRun, IsOwnTail, IsOwnedLine, IsOwnedOver, losses_in, own_head}
 use Rattle.buckfleet_trial.specs.Trial.{IsBestFor, IsDrawn, IsFromNothing, drawn_head}
-use Rattle.buckfleet_trial.specs.Wishes.{HasCutOf}
+use Rattle.buckfleet_trial.specs.Light.{HasCutOf}
 use Rattle.buckfleet_trial.specs.Lines.{AreDrawnFor, AreLinesFor, IsPut, all_draws, columns_of, draws_of}
 use Rattle.buckfleet_trial_owned.specs.inner.Owned.{AreTails, IsFirstLine, IsPaidFor, IsPutOwned, own_columns}
 use Rattle.buckfleet_trial.proofs.Each.{zip_drop, zip_length, zip_of_made, zip_split}

@@ -36,7 +36,7 @@ use Rattle.buckfleet_tasks.specs.declared.trials.OwnedTask.{OwnedTask}
 use Rattle.buckfleet_tasks.specs.declared.trials.TrialTask.{TrialTask}
 use Rattle.buckfleet_trial.specs.Inputs.{AnswersFiles, IsInputFault, SaysInput, held_with}
 use Rattle.buckfleet_trial.specs.Trial.{AreSpread, IsBestFor, IsTrialLine, drawn_head, starts_of}
-use Rattle.buckfleet_trial.specs.Wishes.{AreOrdered}
+use Rattle.buckfleet_trial.specs.Light.{AreOrdered}
 
 -- what the run of a combination brings under an owner's instruction, in the files' own order or in that of a draw: the
 -- total of an appraisal of its history

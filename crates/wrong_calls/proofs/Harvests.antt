@@ -9,7 +9,7 @@ use Rattle.buckfleet_tasks.specs.declared.combination.Combination.{Combination}
 use Rattle.buckfleet_terms_files.specs.Targets.{HasTargets}
 use Rattle.buckfleet_trial.specs.Inputs.{HasWanted}
 use Rattle.buckfleet_trial.specs.Trial.{AnswersTrial, drawn_head, starts_of}
-use Rattle.buckfleet_trial.specs.Tune.{AnswersTune}
+use Rattle.buckfleet_trial_tune.specs.Tune.{AnswersTune}
 use Rattle.buck_c_calls.specs.declared.asked.DrawnRun.{DrawnRun}
 use Rattle.buck_c_calls.specs.declared.asked.Orders.{Orders}
 use Rattle.buck_c_calls.specs.declared.asked.Run.{Run}

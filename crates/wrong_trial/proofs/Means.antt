@@ -9,7 +9,7 @@ use Rattle.buck_book_postings.specs.declared.posting.Posting.{Posting}
 use Rattle.buck_book_postings.specs.History.{HistoryParts, prices_at}
 use Rattle.buck_book_postings.specs.Posting.{planned_version}
 use Rattle.buck_page_text.specs.Words.{half_up}
-use Rattle.buckfleet_trial.specs.Tune.{price_sum, tuned, tuned_price}
+use Rattle.buckfleet_trial_tune.specs.Tune.{price_sum, tuned, tuned_price}
 
 some : (n : ℕ) → (suc n == 0) ≡ false
 some n = grind (arith, nat_tests)

@@ -15,8 +15,8 @@ use Rattle.buckfleet_terms_files.specs.declared.fault.TermsFault.{TermsFault}
 use Rattle.buckfleet_terms_files.specs.Telling.{WritesTerms}
 use Rattle.buckfleet_trial.specs.Inputs.{SaysInput}
 use Rattle.buckfleet_trial.specs.Trial.{starts_of}
-use Rattle.buckfleet_trial.specs.WishLine.{IsWishLine, whole_line, wishes_head}
-use Rattle.buckfleet_trial.specs.Wishes.{AnswersWishes, AreRunsOf, AreUnsteered, IsTold, IsWishAt, IsWishesTable}
+use Rattle.buckfleet_trial_wishes.specs.WishLine.{IsWishLine, whole_line, wishes_head}
+use Rattle.buckfleet_trial_wishes.specs.Wishes.{AnswersWishes, AreRunsOf, AreUnsteered, IsTold, IsWishAt, IsWishesTable}
 use Rattle.wrong_trial.specs.Texts.{StandsIn}
 
 -- what is made of one of a list, and its bytes among those of all

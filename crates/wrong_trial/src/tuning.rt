@@ -7,12 +7,13 @@ ghost use Rattle.buck_book_postings.specs.History.{prices_at};
 ghost use Rattle.buck_book_postings.specs.Posting.{planned_version};
 ghost use Rattle.buckfleet_terms_files.specs.Targets.{lists_of};
 ghost use Rattle.buckfleet_trial.specs.Inputs.{held_with};
-ghost use Rattle.buckfleet_trial.specs.Tune.{tuned_price};
+ghost use Rattle.buckfleet_trial_tune.specs.Tune.{tuned_price};
 
 use buck_apt::read_apt;
 use buck_book_postings::Parts;
 use buckfleet_engine_files::{Nobody, OneThread};
-use buckfleet_trial::{Opened, TuneTask, run_tune, tuned_prices};
+use buckfleet_trial::Opened;
+use buckfleet_trial_tune::{TuneTask, run_tune, tuned_prices};
 use std::alloc::Global;
 
 /// The base price that a history tunes for a class.

@@ -9,13 +9,14 @@ ghost use Rattle.buck_stem.specs.declared.stem.Stem.{Stem};
 ghost use Rattle.buck_book_postings.specs.Posting.{opening_targets};
 ghost use Rattle.buckfleet_trial.specs.Inputs.{SaysInput, held_with};
 ghost use Rattle.buckfleet_trial.specs.Trial.{starts_of};
-ghost use Rattle.buckfleet_trial.specs.WishLine.{IsWishLine, whole_line};
-ghost use Rattle.buckfleet_trial.specs.Wishes.{AreRunsOf, AreUnsteered, IsWishAt};
+ghost use Rattle.buckfleet_trial_wishes.specs.WishLine.{IsWishLine, whole_line};
+ghost use Rattle.buckfleet_trial_wishes.specs.Wishes.{AreRunsOf, AreUnsteered, IsWishAt};
 ghost use Rattle.wrong_trial.specs.Texts.{StandsIn};
 
 use buckfleet_engine_files::{EngineFault, Nobody};
 use buckfleet_terms_files::TermsFault;
-use buckfleet_trial::{Opened, WishesTask, run_wishes_in_parts};
+use buckfleet_trial::Opened;
+use buckfleet_trial_wishes::{WishesTask, run_wishes_in_parts};
 use std::alloc::Global;
 use std::thread::Threads;
 

@@ -2,7 +2,7 @@ use Rattle.std.proofs.Common.{rules, Some, List, map, Bor, subst}
 use Rattle.buckfleet_tasks.specs.declared.combination.Combination.{Combination}
 use Rattle.buckfleet_terms_files.specs.Telling.{WritesTerms}
 use Rattle.buckfleet_trial.specs.Inputs.{held_with}
-use Rattle.buckfleet_trial.specs.Wishes.{AnswersWishes}
+use Rattle.buckfleet_trial_wishes.specs.Wishes.{AnswersWishes}
 use Rattle.buck_c_calls.specs.Asked.{IsCombination}
 use Rattle.buck_c_calls.specs.Trials.{wanted_in}
 use Rattle.buck_c_calls.proofs.Ran.{opened_as, ran, unasked, unhanded}

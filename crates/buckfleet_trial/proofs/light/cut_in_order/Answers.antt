@@ -1,6 +1,6 @@
 use Rattle.std.proofs.Common.{length, ap, arith, refl}
+use Rattle.buckfleet_trial.proofs.Lights.{cut_drawn}
 use Rattle.buckfleet_trial.proofs.Orders.{drawn_length, drawn_stops}
-use Rattle.buckfleet_trial.proofs.Wished.{cut_drawn}
 use Rattle.buckfleet_trial.proofs.light.cut_in_order.Goals as goal
 
 pub cut_by_name-requires-in-Some : goal.cut_by_name-requires-in-Some

@@ -1,6 +1,6 @@
 use Rattle.std.proofs.Common.{◌≡◌, rules, subst}
 use Rattle.buck_apt.specs.Settings.{with_settings}
-use Rattle.buckfleet_trial.specs.Wishes.{HasCutOf}
+use Rattle.buckfleet_trial.specs.Light.{HasCutOf}
 use Rattle.buckfleet_trial_owned.proofs.Owning.{own_run_is}
 use Rattle.buckfleet_trial_owned.proofs.owned.own_run.Goals as goal
 

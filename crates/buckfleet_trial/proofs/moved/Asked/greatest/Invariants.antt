@@ -1,6 +1,0 @@
-use Rattle.std.proofs.Common.{◌≡◌, take}
-use Rattle.buckfleet_trial.specs.Wishes.{greatest}
-use Rattle.buckfleet_trial.proofs.moved.Asked.greatest.Given as goal
-
-abbrev pub invariant-loop-target : goal.invariant-loop-target
-invariant-loop-target l = l.greatest ≡ greatest (take l.target-index l.self.targets.now)

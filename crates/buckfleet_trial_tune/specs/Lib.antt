@@ -1,0 +1,2 @@
+pub mod Tune
+pub mod Serving

@@ -1,0 +1,4 @@
+pub mod WishLine
+pub mod Wishes
+pub mod Serving
+pub mod inner
