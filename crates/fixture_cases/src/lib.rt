@@ -1,5 +1,5 @@
-//! Worked cases: the lines of their files, what a case wants, and what is said of those that differ. Whoever runs them
-//! stands above.
+//! Worked cases: the lines of their files, what a case wants, and what is said of those that differ. `run_cases` runs
+//! them.
 #![tactic(auto)]
 
 mod case;
