@@ -6,7 +6,7 @@ use Rattle.std.specs.Char.{is_ascii_digit, digit_value}
 use Rattle.std.specs.Str.Parse.{digits_value}
 use Rattle.std.proofs.lemmas.Str.Parse.{IsNumeralModel, numerals_by_value, digits_value-take-le}
 use Rattle.std.proofs.lemmas.Int.Digits.{digits_value_more}
-use Rattle.std.proofs.lemmas.List.{get_or-take, take-take}
+use Rattle.std.proofs.lemmas.List.{get_or-take, take-take, take_rest}
 use Rattle.std.proofs.lemmas.List.Folds.{list_all_at, list_all_more}
 use Rattle.std.proofs.lemmas.List.Sums.{AllPass-from_list_all, passes_at_first, position_or_len_is}
 use Rattle.std.proofs.lemmas.Bool.{cases_lt, false≢true, and_from, and_left, and_right, le-leb, lt-leb, lt-ltb, cond-true, cond-false}
@@ -164,3 +164,11 @@ module _ (most : ℕ) (text rest : List ℕ) (v : ℕ) (r : IsRead text rest v) 
       let worth = word_worth text r.place r.digits (some_left some) (ap is_ascii_digit (sym next_byte) ∙ digit) in
       number-large most (first_word text)
       (omega (arith, worth.1, rw (← value_of _ digit, next_byte, r.value) at large))
+
+-- a zero before the number is next
+pub zero_read : (text rest : List ℕ) → IsRead text rest 0 → 0 < length rest → get_or rest 0 0 ≡ 48
+    → IsRead text (take (length rest - 1) (drop 1 rest)) 0
+zero_read text rest r some zero =
+    let read : IsRead text (drop 1 rest) (0 * 10 + (get_or rest 0 0 - 48)) =
+    digit_read 0 text rest 0 r some (ap is_ascii_digit zero) in
+    rw (take_rest rest 1) (rw zero at read)

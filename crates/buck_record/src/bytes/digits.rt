@@ -18,7 +18,7 @@ pub(crate) fn is_past(most: u64, number: u64, digit: u64) -> bool
 
 /// Reads the number that a text begins with, in one pass over its digits: the value of the text's first word, and the
 /// bytes after the whitespace byte that ends the word. `None` if the word is no number, or one above `most`.
-#[tactic(auto, using(crate::proofs::NumberLemmas::none_read))]
+#[tactic(auto, using(crate::proofs::NumberLemmas::none_read, crate::proofs::NumberLemmas::zero_read))]
 #[inline(always)]
 pub(crate) fn cut_number(most: u64, text: &[u8]) -> Option<(u64, &[u8])>
     requires { 0 < length (first_word text.now) }
@@ -27,8 +27,12 @@ pub(crate) fn cut_number(most: u64, text: &[u8]) -> Option<(u64, &[u8])>
     ensures small { IfSome result (λ cut. cut.0 ≤ most) }
 {
     // Not the library's `parse`: it accepts a plus sign, and takes text, not bytes.
-    let mut value: u64 = 0;
     let mut rest = text;
+    // Zeros before a number change nothing, and a word may have any number of them.
+    while let [b'0', after @ ..] = rest {
+        rest = after;
+    }
+    let mut value: u64 = 0;
     while let [byte, after @ ..] = rest {
         if byte.is_ascii_digit() {
             let digit = u64::from(*byte - b'0');
