@@ -13,8 +13,8 @@ unfoldable use Rattle.buck_record.specs.checking.Check.{each, make_each}
 unfoldable use Rattle.buck_record.specs.checking.Rules.{numbers_in}
 use Rattle.std.specs.Prelude.{Result}
 use Rattle.buck_apt.specs.declared.fault.AptFault.{AptFault}
-use Rattle.buck_apt.specs.declared.slots.TheConstants.{ALONE, HEAD, NAME, TRIM}
-use Rattle.buck_apt.specs.Instruction.{AssortmentParts, InstructionParts, IsAssortment, IsInstruction}
+use Rattle.buck_apt_instruction.specs.declared.slots.TheConstants.{ALONE, HEAD, NAME, TRIM}
+use Rattle.buck_apt_instruction.specs.Instruction.{AssortmentParts, InstructionParts, IsAssortment, IsInstruction}
 use Rattle.buck_apt.specs.Apt.{groups, begins_with_name}
 unfoldable use Rattle.buck_apt.specs.Apt.{group_present, present, group_single, single, numbers_or, draft_of, file_draft_of, draft_in}
 use Rattle.buck_record.specs.writing.Written.{blank, row_start}

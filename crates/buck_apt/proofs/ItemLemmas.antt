@@ -13,8 +13,8 @@ use Rattle.buck_record.specs.bytes.Record.{is_tilde}
 unfoldable use Rattle.buck_record.specs.bytes.Record.{items_of}
 use Rattle.buck_record.specs.checking.Rules.{file_slot}
 use Rattle.buck_record.specs.pass.Cursor.{HasItems, item_in}
-use Rattle.buck_apt.specs.declared.slots.TheConstants.{MODULE, PERIOD, LIMIT, COUNT, NAME, SPECIES, GRADES, PRICE_KIND, DIAMETERS, UPPER, LENGTHS, PRICES, TARGETS, TRIM}
-use Rattle.buck_apt.specs.Instruction.{AssortmentParts, InstructionParts, IsAssortment, IsInstruction, IsNameByte, IsWithin, classes_of}
+use Rattle.buck_apt_instruction.specs.declared.slots.TheConstants.{MODULE, PERIOD, LIMIT, COUNT, NAME, SPECIES, GRADES, PRICE_KIND, DIAMETERS, UPPER, LENGTHS, PRICES, TARGETS, TRIM}
+use Rattle.buck_apt_instruction.specs.Instruction.{AssortmentParts, InstructionParts, IsAssortment, IsInstruction, IsNameByte, IsWithin, classes_of}
 use Rattle.buck_record.specs.writing.Written.{spaced, blank, row_start}
 use Rattle.buck_record.specs.writing.Line.{item_text}
 use Rattle.buck_apt.specs.Text.{list_text, trim_text}
@@ -23,8 +23,8 @@ use Rattle.buck_record.proofs.LineLemmas.{IsPlain, IsSaid, line_says, no_items}
 use Rattle.buck_record.proofs.RoundLemmas.{AreWhite}
 use Rattle.buck_record.proofs.SpacedLemmas.{said, AreSmall, numbers_are_said, spaced_said, trimmed_is_dark}
 use Rattle.std.specs.Prelude.{if◌then◌else◌}
-use Rattle.buck_apt.specs.declared.draft.Draft.{Draft}
-use Rattle.buck_apt.specs.declared.draft.FileDraft.{FileDraft}
+use Rattle.buck_apt_instruction.specs.declared.draft.Draft.{Draft}
+use Rattle.buck_apt_instruction.specs.declared.draft.FileDraft.{FileDraft}
 
 abbrev pub trim_items : ℕ → List ItemParts
 trim_items n = if n == 0 then [] else item_in TRIM (said blank (n ∷ [])) ∷ []

@@ -10,10 +10,11 @@ use Rattle.std.proofs.lemmas.List.Elements.{recursion_from_All, All-map}
 use Rattle.std.proofs.lemmas.List.Sums.{list_all-from_AllPass, position_or_len_is}
 use Rattle.buck_record.specs.checking.Rules.{within, all_within, is_rising}
 use Rattle.buck_apt.specs.declared.fault.AptFault.TheVariants.{Module}
-use Rattle.buck_apt.specs.declared.slots.TheConstants.{LONGEST_NAME, MOST_GRADES, MOST_ROWS, MOST_COLUMNS, MOST_TARGETS_TOGETHER}
-use Rattle.buck_apt.specs.declared.draft.Draft.{Draft}
-use Rattle.buck_apt.specs.Instruction.{AssortmentParts, InstructionParts, IsAssortment, IsInstruction, IsNameByte, IsWithin}
-use Rattle.buck_apt.specs.Apt.{table, is_name, is_name_byte, none_found, first_off_module, assortment_of, instruction_of}
+use Rattle.buck_apt_instruction.specs.declared.slots.TheConstants.{LONGEST_NAME, MOST_GRADES, MOST_ROWS, MOST_COLUMNS, MOST_TARGETS_TOGETHER}
+use Rattle.buck_apt_instruction.specs.declared.draft.Draft.{Draft}
+use Rattle.buck_apt_instruction.specs.Instruction.{AssortmentParts, InstructionParts, IsAssortment, IsInstruction, IsNameByte, IsWithin}
+use Rattle.buck_apt_instruction.specs.Draft.{assortment_of, instruction_of}
+use Rattle.buck_apt.specs.Apt.{table, is_name, is_name_byte, none_found, first_off_module}
 unfoldable use Rattle.buck_apt.specs.Apt.{draft_range, draft_order, draft_count, in_range, in_order, in_number, on_module, in_targets, within_limits, apt_of}
 use Rattle.buck_apt.specs.Text.{text_of}
 unfoldable use Rattle.buck_apt.proofs.ItemLemmas.{member_items, head_items}

@@ -1,8 +1,7 @@
 -- What the lines of refusals that passed say: names are trimmed, and the numbers are within the limits.
-use Rattle.std.proofs.Common.{map, rules, ◌≡◌, ℕ, ◌*◌, ◌<◌, ◌≤◌, Bool, true, false, List, [], ◌∷◌, ◌==◌, Ok, Option, Some, None, length, sum, slice_index, refl, arith, eqb-true, All, zero, suc, add-one, nat_lt, ◌%◌, subst}
+use Rattle.std.proofs.Common.{map, rules, ◌≡◌, ℕ, ◌*◌, ◌<◌, ◌≤◌, Bool, true, false, List, [], ◌∷◌, ◌==◌, Ok, Option, Some, None, length, sum, slice_index, refl, arith, eqb-true, All, nat_lt, ◌%◌, subst}
 use Rattle.std.specs.Prelude.{position}
 use Rattle.std.specs.List.{AllByRecursion, list_all}
-use Rattle.std.specs.List.Sorted.{IsStrictlyIncreasing}
 use Rattle.std.proofs.lemmas.Bool.Decides.{nat_tests}
 use Rattle.std.proofs.lemmas.List.Elements.{All-from_recursion, All-map}
 use Rattle.std.proofs.lemmas.List.{length-map}
@@ -12,16 +11,18 @@ use Rattle.std.proofs.lemmas.Bool.{ltb-true, ltb-false}
 use Rattle.buck_record.specs.declared.slot.Slot.{Slot}
 use Rattle.buck_record.specs.checking.Rules.{one_to, is_rising}
 use Rattle.buck_record.proofs.PassLemmas.{AreRanged, passed, check_ok, then_ok, each_ok, both, within_ok, in_range_ok, ranged, counted_ok, counted}
+use Rattle.buck_apt_instruction.proofs.Rising.{rising_ok}
 use Rattle.buck_apt.specs.declared.fault.AptFault.{AptFault}
 use Rattle.buck_apt.specs.declared.fault.AptFault.TheVariants.{Head, Range, Count, Module, Targets}
-use Rattle.buck_apt.specs.declared.slots.TheConstants.{MODULE, PERIOD, LIMIT, COUNT, LONGEST_NAME, SPECIES, GRADES, MOST_GRADES, PRICE_KIND, DIAMETERS, MOST_ROWS, UPPER, LENGTHS, MOST_COLUMNS}
-use Rattle.buck_apt.specs.declared.slots.TheConstants.{PRICES, TARGETS, MOST_TARGETS_TOGETHER, TRIM, NAME}
-use Rattle.buck_apt.specs.declared.draft.Draft.{Draft}
-use Rattle.buck_apt.specs.declared.draft.FileDraft.{FileDraft}
-use Rattle.buck_apt.specs.Instruction.{IsAssortment, IsWithin, IsNameByte, IsOnModule}
+use Rattle.buck_apt_instruction.specs.declared.slots.TheConstants.{MODULE, PERIOD, LIMIT, COUNT, LONGEST_NAME, SPECIES, GRADES, MOST_GRADES, PRICE_KIND, DIAMETERS, MOST_ROWS, UPPER, LENGTHS, MOST_COLUMNS}
+use Rattle.buck_apt_instruction.specs.declared.slots.TheConstants.{PRICES, TARGETS, MOST_TARGETS_TOGETHER, TRIM, NAME}
+use Rattle.buck_apt_instruction.specs.declared.draft.Draft.{Draft}
+use Rattle.buck_apt_instruction.specs.declared.draft.FileDraft.{FileDraft}
+use Rattle.buck_apt_instruction.specs.Instruction.{IsAssortment, IsWithin, IsNameByte, IsOnModule}
 use Rattle.buck_apt.specs.Apt.{is_name, is_name_byte, all_above, is_number_of, none_found, first_off_module, draft_range, draft_order, draft_count, in_range, in_order, in_number, on_module}
-use Rattle.buck_apt.specs.Apt.{in_targets, within_limits, assortment_of, table, groups}
-use Rattle.buck_apt.specs.inner.Ready.{IsReadyDraft, IsReadyFile}
+use Rattle.buck_apt_instruction.specs.Draft.{assortment_of}
+use Rattle.buck_apt.specs.Apt.{in_targets, within_limits, table, groups}
+use Rattle.buck_apt_instruction.specs.Draft.{IsReadyDraft, IsReadyFile}
 use Rattle.buck_record.specs.Item.{ItemParts}
 use Rattle.buck_record.specs.Reading.{with_fault}
 use Rattle.buck_record.specs.bytes.Record.{items_of}
@@ -77,16 +78,6 @@ one_number ns h = omega (arith, h)
 
 name_byte_ok : (b : ℕ) → is_name_byte b ≡ true → IsNameByte b
 name_byte_ok b h = grind (arith, nat_tests)
-
-rising_at : (ns : List ℕ) → is_rising ns ≡ true → (k : ℕ) → suc k < length ns
-    → slice_index ns k < slice_index ns (suc k)
-rising_at [] h k lt = absurd (omega arith)
-rising_at (n ∷ []) h k lt = absurd (omega arith)
-rising_at (m ∷ n ∷ ns) h zero lt = ltb-true _ _ (both (nat_lt m n) _ h).0
-rising_at (m ∷ n ∷ ns) h (suc k) lt = rising_at (n ∷ ns) (both (nat_lt m n) _ h).1 k (omega arith)
-
-pub rising_ok : (ns : List ℕ) → is_rising ns ≡ true → IsStrictlyIncreasing ns
-rising_ok ns h = λ k lt. rw add-one (rising_at ns h k (omega arith))
 
 above_ok : (lows highs : List ℕ) → all_above lows highs ≡ true → length highs ≡ 1
     → All (λ low. low < slice_index highs 0) lows

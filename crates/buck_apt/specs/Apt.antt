@@ -2,7 +2,7 @@
 -- before it pass, and within a line the first item in the order of the table, assortment by assortment. The table
 -- stands in src/slots: what each item says, the range of its numbers, and how many there may be, if more than one.
 -- The chain of the ten lines, `apt_of`, stands at the end of this page.
-use Rattle.std.specs.Prelude.{ℕ, Bool, not, ◌*◌, ◌%◌, ◌&&◌, ◌==◌, List, [], ◌∷◌, ◌++◌, length, map, sum, slice_index, nat_le, nat_lt, find, position, Option, Some, None, Result, Ok, Err, codes, if◌then◌else◌}
+use Rattle.std.specs.Prelude.{ℕ, Bool, not, ◌*◌, ◌%◌, ◌&&◌, ◌==◌, List, [], ◌∷◌, ◌++◌, length, sum, slice_index, nat_le, nat_lt, find, position, Option, Some, None, Result, Ok, Err, codes, if◌then◌else◌}
 use Rattle.std.specs.List.{list_all}
 use Rattle.std.specs.Str.{bytes_eq}
 use Rattle.buck_record.specs.Item.{ItemParts}
@@ -12,11 +12,12 @@ use Rattle.buck_record.specs.bytes.Record.{items_of}
 use Rattle.buck_record.specs.checking.Table.{only_in, count_in, rest_in, first_missing, first_twice, groups_of}
 use Rattle.buck_record.specs.checking.Check.{◌>>=◌, check, none_of, each, make_each}
 use Rattle.buck_record.specs.checking.Rules.{file_slot, of_slot, has_no_strays, numbers_in, one_to, all_in_range, counted_to, is_rising}
-use Rattle.buck_apt.specs.declared.slots.TheConstants.{MODULE, PERIOD, LIMIT, COUNT, NAME, LONGEST_NAME, SPECIES, GRADES, MOST_GRADES, PRICE_KIND, DIAMETERS, MOST_ROWS, UPPER, LENGTHS, MOST_COLUMNS, PRICES, TARGETS, MOST_TARGETS_TOGETHER}
-use Rattle.buck_apt.specs.declared.slots.TheConstants.{TRIM, HEAD, ALONE, MEMBERS, IN_ASSORTMENT}
-use Rattle.buck_apt.specs.Instruction.{AssortmentParts, InstructionParts}
-use Rattle.buck_apt.specs.declared.draft.Draft.{Draft}
-use Rattle.buck_apt.specs.declared.draft.FileDraft.{FileDraft}
+use Rattle.buck_apt_instruction.specs.declared.slots.TheConstants.{MODULE, PERIOD, LIMIT, COUNT, NAME, LONGEST_NAME, SPECIES, GRADES, MOST_GRADES, PRICE_KIND, DIAMETERS, MOST_ROWS, UPPER, LENGTHS, MOST_COLUMNS, PRICES, TARGETS}
+use Rattle.buck_apt_instruction.specs.declared.slots.TheConstants.{MOST_TARGETS_TOGETHER, TRIM, HEAD, ALONE, MEMBERS, IN_ASSORTMENT}
+use Rattle.buck_apt_instruction.specs.Instruction.{InstructionParts}
+use Rattle.buck_apt_instruction.specs.Draft.{instruction_of}
+use Rattle.buck_apt_instruction.specs.declared.draft.Draft.{Draft}
+use Rattle.buck_apt_instruction.specs.declared.draft.FileDraft.{FileDraft}
 use Rattle.buck_apt.specs.declared.fault.AptFault.{AptFault}
 use Rattle.buck_apt.specs.declared.fault.AptFault.TheVariants.{Head, NotApt, Missing, Twice, Digits, Range, Order, Count, Module, Targets}
 
@@ -178,30 +179,6 @@ on_module file =
 -- Line 10, Targets: no assortment's targets are too many together; assortments count from 0.
 unfoldable pub in_targets : FileDraft → Result (Unit {0}) AptFault
 in_targets file = none_found (position (λ d. nat_lt MOST_TARGETS_TOGETHER (sum d.targets)) file.drafts) Targets
-
--- the assortment that the numbers say
-abbrev pub assortment_of : Draft → AssortmentParts
-assortment_of d = record {
-  name = d.name;
-  species = slice_index d.species 0;
-  grades = d.grades;
-  price_kind = slice_index d.price_kind 0;
-  diameters = d.diameters;
-  upper = slice_index d.upper 0;
-  lengths = d.lengths;
-  prices = d.prices;
-  targets = d.targets;
-  trim = slice_index d.trim 0;
-}
-
--- the instruction that the numbers say
-abbrev pub instruction_of : FileDraft → InstructionParts
-instruction_of file = record {
-  «module» = slice_index file.«module» 0;
-  period = slice_index file.period 0;
-  limit = slice_index file.limit 0;
-  assortments = map assortment_of file.drafts;
-}
 
 -- Lines 2 to 5: what the items of an instruction say.
 unfoldable pub draft_in : List ItemParts → Result FileDraft AptFault

@@ -5,7 +5,7 @@ use Rattle.std.specs.Prelude.{ℕ, ◌==◌, List, [], ◌∷◌, ◌++◌, leng
 use Rattle.std.specs.List.{flat_map}
 use Rattle.buck_record.specs.writing.Written.{spaced, blank, row_start}
 use Rattle.buck_record.specs.writing.Line.{item_text}
-use Rattle.buck_apt.specs.Instruction.{AssortmentParts, InstructionParts}
+use Rattle.buck_apt_instruction.specs.Instruction.{AssortmentParts, InstructionParts}
 
 -- an item of numbers
 abbrev pub list_text : List ℕ → List ℕ → List ℕ

@@ -1,16 +1,17 @@
 //! The lines of the order of refusals.
 ghost use Rattle.std.specs.Prelude.{◌≡◌, ◌<◌, ◌≤◌, ◌*◌, ◌==◌, length, slice_index, sum, position, nat_lt};
 ghost use Rattle.buck_apt.specs.declared.fault.AptFault.TheVariants.{Module};
-ghost use Rattle.buck_apt.specs.Apt.{groups, begins_with_name, group_present, present, group_single, single, draft_range, in_range, draft_order, in_order, draft_count, in_number, is_number_of, none_found, first_off_module, on_module, in_targets, within_limits};
+ghost use Rattle.buck_apt.specs.Apt.{groups, begins_with_name, group_present, present, group_single, single, draft_range, in_range, draft_order, in_order, draft_count, in_number, is_number_of, none_found, first_off_module, on_module};
+ghost use Rattle.buck_apt.specs.Apt.{in_targets, within_limits};
 
-use crate::draft::{Draft, FileDraft};
 use crate::fault::AptFault;
 use crate::rules::{all_above, first_off_module, is_name, sum_of};
-use crate::slots::{
+use buck_apt_instruction::slots::{
     ALONE, COUNT, DIAMETERS, GRADES, HEAD, IN_ASSORTMENT, LENGTHS, LIMIT, MEMBERS, MODULE,
     MOST_COLUMNS, MOST_GRADES, MOST_ROWS, MOST_TARGETS_TOGETHER, NAME, PERIOD, PRICE_KIND, PRICES,
     SPECIES, TARGETS, TRIM, UPPER,
 };
+use buck_apt_instruction::{Draft, FileDraft};
 use buck_record::check::{all_absent, all_single, all_there, check, each, is_there};
 use buck_record::rules::{all_in_range, counted_to, is_rising};
 use buck_record::table::front;

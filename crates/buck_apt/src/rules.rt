@@ -3,7 +3,7 @@ ghost use Rattle.std.specs.Prelude.{◌≡◌, ◌<◌, length, nat_lt, sum};
 ghost use Rattle.std.specs.List.{list_all};
 ghost use Rattle.buck_apt.specs.Apt.{is_name, is_name_byte, all_above, first_off_module};
 
-use crate::slots::LONGEST_NAME;
+use buck_apt_instruction::slots::LONGEST_NAME;
 use buck_record::rules::one_to;
 
 /// Each of the lower limits is below the number.

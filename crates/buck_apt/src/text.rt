@@ -6,8 +6,7 @@ ghost use Rattle.buck_apt.specs.Apt.{apt_of};
 ghost use Rattle.buck_record.specs.writing.Written.{spaced, blank, row_start};
 ghost use Rattle.buck_apt.specs.Text.{list_text, table_text, trim_text, wood_text, sizes_text, tables_text, assortment_text, text_of};
 
-use crate::assortment::Assortment;
-use crate::instruction::Instruction;
+use buck_apt_instruction::{Assortment, Instruction};
 use buck_record::{Memory, put_after, put_number};
 use std::alloc::Global;
 

@@ -1,6 +1,6 @@
 -- What one call adds to the history of a book: a cut, or new targets, and the next sheet if the period ends.
 use Rattle.std.specs.Prelude.{◌≡◌, ◌≤◌, ◌<◌, ℕ, List, [], ◌∷◌, ◌++◌, Option, IfSome}
-use Rattle.buck_apt.specs.Instruction.{InstructionParts}
+use Rattle.buck_apt_instruction.specs.Instruction.{InstructionParts}
 use Rattle.buck_stem.specs.Stem.{StemParts}
 use Rattle.buck_value.specs.Sheet.{SheetParts, base_prices}
 use Rattle.buck_book_postings.specs.declared.posting.Posting.{Posting}

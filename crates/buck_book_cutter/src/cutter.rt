@@ -12,7 +12,7 @@ ghost use Rattle.buck_book_text.specs.Written.{journal_text};
 ghost use Rattle.buck_book_cutter.specs.Cut.{HasCut, HasRetargeted, StaysByRule, opening};
 ghost use Rattle.buck_book_cutter.specs.inner.Planned.{IsSheetOf};
 
-use buck_apt::Instruction;
+use buck_apt_instruction::Instruction;
 use buck_book_postings::{Book, CutFault, Demand, DemandRefusal, Entry, Plan};
 use buck_book_text::journal_text;
 use buck_dp::Planner;

@@ -3,7 +3,7 @@
 use Rattle.std.proofs.Common.{◌≡◌, ℕ, zero, suc, ◌+◌, ◌-◌, ◌<◌, ◌≤◌, inl, inr, List, [], ◌∷◌, ◌++◌, length, take, slice_get, Some, refl, sym, subst, arith}
 use Rattle.std.proofs.lemmas.Bool.{cases_Bool, cases_eq, cases_lt}
 use Rattle.std.proofs.lemmas.Option.{slice_get_cases}
-use Rattle.buck_apt.specs.Instruction.{InstructionParts, IsInstruction}
+use Rattle.buck_apt_instruction.specs.Instruction.{InstructionParts, IsInstruction}
 use Rattle.buck_value.specs.Sheet.{IsPriceAt}
 use Rattle.buck_book_postings.specs.declared.posting.Posting.{Posting}
 use Rattle.buck_book_postings.specs.History.{HistoryParts, IsLawful, PricesMeet, standing_of}

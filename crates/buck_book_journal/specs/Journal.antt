@@ -1,6 +1,6 @@
 -- A journal, and the history that it says of an instruction.
 use Rattle.std.specs.Prelude.{◌≡◌, ℕ, List, take}
-use Rattle.buck_apt.specs.Instruction.{InstructionParts}
+use Rattle.buck_apt_instruction.specs.Instruction.{InstructionParts}
 use Rattle.buck_book_postings.specs.declared.posting.Posting.{Posting}
 use Rattle.buck_book_postings.specs.Posting.{ends_of, cuts_since_end}
 use Rattle.buck_book_postings.specs.History.{HistoryParts, prices_at}

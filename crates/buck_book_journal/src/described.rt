@@ -1,6 +1,6 @@
 //! The items of a journal as people speak of them: a new one is a row here.
 use crate::slots::{CUT, CUT_SAMPLES, CUT_ZONES, DEMAND, DEMAND_TARGETS, HEAD, LOGS, SHEET, WORTH};
-use buck_apt::slots::{LENGTHS, TARGETS};
+use buck_apt_instruction::slots::{LENGTHS, TARGETS};
 use buck_book_postings::MOST_POSTINGS;
 use buck_record::Count::{AtMost, One, Pairs, Slots, Triples, UpTo};
 use buck_record::Level::{Head, Member, Opener};

@@ -11,8 +11,8 @@ pub use Rattle.std.proofs.lemmas.List.{length-map, get_or-take, get_or-drop, len
 pub use Rattle.std.proofs.lemmas.List.Elements.{recursion_from_All, All-nil, All-cons, All-weaker, All-take, All-append, All-get_or}
 pub use Rattle.std.proofs.lemmas.List.Sums.{sum_by-le-sum_by, sum_by_push, count_by-le-length, sum_by_more_le, sum_by-le, get_or-le-sum_by}
 pub use Rattle.std.proofs.lemmas.Option.{slice_get_within, slice_get-map, slice_get_cases, same_Some, none-some, slice_get_read, get_or_from_slice_get, slice_get-get_or, IfSome_then}
-pub use Rattle.buck_apt.specs.declared.class.Class.{Class}
-pub use Rattle.buck_apt.specs.Instruction.{InstructionParts, AssortmentParts, IsInstruction, IsClass, classes_of, classes_before, index_of, IsWithin, place_in, IsAssortment}
+pub use Rattle.buck_apt_instruction.specs.declared.class.Class.{Class}
+pub use Rattle.buck_apt_instruction.specs.Instruction.{InstructionParts, AssortmentParts, IsInstruction, IsClass, classes_of, classes_before, index_of, IsWithin, place_in, IsAssortment}
 pub use Rattle.buck_value.specs.Sheet.{base_prices, SheetParts, IsPriceAt, IsInSpan, IsSheetFault}
 pub use Rattle.buck_value.proofs.Prices.{length-base_prices, base_at, base_price-le}
 pub use Rattle.buck_book_postings.specs.declared.posting.Posting.{Posting}

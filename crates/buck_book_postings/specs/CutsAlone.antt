@@ -1,8 +1,8 @@
 -- Histories of cuts alone, in which no demand stands: what a lawful one is in words that know of no demand. Only the
 -- law that both say the same leads here.
 use Rattle.std.specs.Prelude.{◌≡◌, ℕ, ◌+◌, ◌*◌, ◌/◌, ◌<◌, ◌==◌, List, length, take, sum, sum_by, count_by, slice_index, slice_get, Some, map}
-use Rattle.buck_apt.specs.declared.class.Class.{Class}
-use Rattle.buck_apt.specs.Instruction.{InstructionParts, AssortmentParts, IsClass, classes, index_of}
+use Rattle.buck_apt_instruction.specs.declared.class.Class.{Class}
+use Rattle.buck_apt_instruction.specs.Instruction.{InstructionParts, AssortmentParts, IsClass, classes, index_of}
 use Rattle.buck_rule.specs.declared.standing.Standing.{Standing}
 use Rattle.buck_rule.specs.Relation.{Meets}
 use Rattle.buck_dp.specs.Best.{IsBest, cutting_worth}

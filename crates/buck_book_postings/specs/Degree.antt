@@ -1,7 +1,7 @@
 -- The degree of apportionment: how far the logs that were cut of an assortment have the proportions of those wanted.
 use Rattle.std.specs.Prelude.{◌≡◌, ℕ, ◌*◌, ◌/◌, ◌==◌, min, cond, List, take, drop, sum, sum_by, Option, Some, None, slice_get}
 use Rattle.std.specs.List.{zip}
-use Rattle.buck_apt.specs.Instruction.{InstructionParts, AssortmentParts, classes_of, classes_before}
+use Rattle.buck_apt_instruction.specs.Instruction.{InstructionParts, AssortmentParts, classes_of, classes_before}
 use Rattle.buck_book_postings.specs.Posting.{targets_of}
 use Rattle.buck_book_postings.specs.Counts.{AreClassCounts}
 use Rattle.buck_book_postings.specs.History.{HistoryParts}

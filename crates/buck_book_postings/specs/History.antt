@@ -1,7 +1,7 @@
 -- Histories, and which are lawful: facts on finished lists.
 use Rattle.std.specs.Prelude.{◌≡◌, ℕ, ◌+◌, List, [], ◌∷◌, ◌++◌, true, length, take, slice_index, slice_index_or, slice_get, Option, Some, None}
-use Rattle.buck_apt.specs.declared.class.Class.{Class}
-use Rattle.buck_apt.specs.Instruction.{InstructionParts, AssortmentParts, IsClass, classes, index_of}
+use Rattle.buck_apt_instruction.specs.declared.class.Class.{Class}
+use Rattle.buck_apt_instruction.specs.Instruction.{InstructionParts, AssortmentParts, IsClass, classes, index_of}
 use Rattle.buck_rule.specs.declared.standing.Standing.{Standing}
 use Rattle.buck_rule.specs.Relation.{Meets}
 use Rattle.buck_value.specs.Sheet.{SheetParts, sheet_of, base_prices}

@@ -3,8 +3,8 @@ use Rattle.std.specs.Prelude.{◌≡◌, ℕ, ◌+◌, List, take, slice_get, sl
 use Rattle.std.specs.Fn.{FnReturnsAt}
 use denote.Ref.{Bor}
 use denote.Param.Members.{Shared}
-use Rattle.buck_apt.specs.declared.class.Class.{Class}
-use Rattle.buck_apt.specs.Instruction.{InstructionParts, IsClass, index_of}
+use Rattle.buck_apt_instruction.specs.declared.class.Class.{Class}
+use Rattle.buck_apt_instruction.specs.Instruction.{InstructionParts, IsClass, index_of}
 use Rattle.buck_rule.specs.declared.standing.Standing.{Standing}
 use Rattle.buck_book_postings.specs.declared.posting.Posting.{Posting}
 use Rattle.buck_book_postings.specs.Plan.{PlanParts}

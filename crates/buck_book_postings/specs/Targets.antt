@@ -1,9 +1,9 @@
 -- Which targets are valid, and why others are refused.
 use Rattle.std.specs.Prelude.{◌≡◌, ◌≢◌, ℕ, ◌<◌, ◌≤◌, List, length, take, drop, sum, slice_index, EachIndex, slice_get, Some}
-use Rattle.buck_apt.specs.Instruction.{InstructionParts, AssortmentParts, classes, classes_of, classes_before}
+use Rattle.buck_apt_instruction.specs.Instruction.{InstructionParts, AssortmentParts, classes, classes_of, classes_before}
 use Rattle.buck_book_postings.specs.declared.targets.TargetsFault.{TargetsFault}
 use Rattle.buck_book_postings.specs.declared.targets.TargetsFault.TheVariants.{Count, Range, Sum}
-use Rattle.buck_apt.specs.declared.slots.TheConstants.{TARGETS, MOST_TARGETS_TOGETHER}
+use Rattle.buck_apt_instruction.specs.declared.slots.TheConstants.{TARGETS, MOST_TARGETS_TOGETHER}
 
 -- what is wanted of the assortment at a place, over all its classes
 abbrev pub targets_sum : InstructionParts → AssortmentParts → ℕ → List ℕ → ℕ

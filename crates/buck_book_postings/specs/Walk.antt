@@ -1,7 +1,7 @@
 -- A way through the postings of a history, from the opening on.
 use Rattle.std.specs.Prelude.{◌≡◌, ℕ, ◌<◌, List, take, slice_index}
-use Rattle.buck_apt.specs.declared.class.Class.{Class}
-use Rattle.buck_apt.specs.Instruction.{InstructionParts, IsClass, index_of}
+use Rattle.buck_apt_instruction.specs.declared.class.Class.{Class}
+use Rattle.buck_apt_instruction.specs.Instruction.{InstructionParts, IsClass, index_of}
 use Rattle.buck_rule.specs.declared.standing.Standing.{Standing}
 use Rattle.buck_rule.specs.Relation.{Meets}
 use Rattle.buck_value.specs.Allowed.{IsAllowed, end_of}

@@ -1,7 +1,7 @@
 //! The book of one thread.
 ghost use Rattle.std.specs.Prelude.{◌≡◌, ℕ, ◌+◌, ◌-◌, ◌<◌, ◌≤◌, [], ◌∷◌, ◌++◌, false, All, IfOk, IfErr, IfSome, OnOk, IsTrue, ◌↔◌, length, map, vec_len, vec_capacity};
 ghost use Rattle.std.specs.Option.{option_to_list, option_map};
-ghost use Rattle.buck_apt.specs.Instruction.{IsClass};
+ghost use Rattle.buck_apt_instruction.specs.Instruction.{IsClass};
 ghost use Rattle.buck_rule.specs.Stored.{Answers};
 ghost use Rattle.buck_value.specs.Sheet.{base_prices, sheet_of};
 ghost use Rattle.buck_book_postings.specs.Posting.{harvester_of, number_of, targets_of, cuts_since_end};
@@ -22,7 +22,7 @@ use crate::posting::{Demand, Posting};
 use crate::ready::{CutFault, Ready, Refusal};
 use crate::running::Running;
 use crate::targets::check_targets;
-use buck_apt::{Class, Instruction};
+use buck_apt_instruction::{Class, Instruction};
 use buck_record::Memory;
 use buck_rule::{Rule, Standing};
 use buck_value::Sheet;

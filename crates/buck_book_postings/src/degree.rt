@@ -1,10 +1,10 @@
 //! The degree of apportionment.
 ghost use Rattle.std.specs.Prelude.{◌≡◌, ◌*◌, ◌<◌, ◌≤◌, ◌^◌, length};
-ghost use Rattle.buck_apt.specs.Instruction.{classes};
+ghost use Rattle.buck_apt_instruction.specs.Instruction.{classes};
 ghost use Rattle.buck_book_postings.specs.Degree.{IsDegreeBy, shared_of};
 
 use crate::targets::sum_of;
-use buck_apt::{Class, Instruction};
+use buck_apt_instruction::{Class, Instruction};
 
 /// Over all classes, the lesser of what is wanted as a share of all wanted and what was cut as a share of all cut.
 fn shared(targets: &[u32], counts: &[u32], wanted: u128, cut: u128) -> u128

@@ -1,6 +1,6 @@
 //! What follows from the definitions of a history, for all histories: each law is the contract of an empty function.
 ghost use Rattle.std.specs.Prelude.{◌≡◌, ℕ, ◌+◌, ◌/◌, ◌%◌, ◌<◌, ◌≤◌, ◌↔◌, List, ◌∷◌, ◌++◌, length, Option, map};
-ghost use Rattle.buck_apt.specs.Instruction.{InstructionParts, IsInstruction};
+ghost use Rattle.buck_apt_instruction.specs.Instruction.{InstructionParts, IsInstruction};
 ghost use Rattle.buck_value.specs.Sheet.{SheetParts};
 ghost use Rattle.buck_book_postings.specs.declared.posting.Posting.{Posting};
 ghost use Rattle.buck_book_postings.specs.declared.posting.Posting.TheVariants.{Cut, Demand};

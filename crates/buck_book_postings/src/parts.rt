@@ -8,7 +8,7 @@ ghost use Rattle.buck_book_postings.specs.Book.{sheets_from};
 ghost use Rattle.buck_book_postings.specs.declared.posting.TheConstants.{MOST_POSTINGS};
 
 use crate::posting::Posting;
-use buck_apt::Instruction;
+use buck_apt_instruction::Instruction;
 use buck_value::Sheet;
 use std::marker::Model;
 use std::sync::Arc;

@@ -1,6 +1,6 @@
 //! How classes stand: the prices that a rule answers to it, and whether prices keep the price relation with it.
 ghost use Rattle.std.specs.Prelude.{◌≡◌, ◌+◌, ◌<◌, IfOk, IfSome, IfNone, length};
-ghost use Rattle.buck_apt.specs.Instruction.{classes, classes_of, classes_before};
+ghost use Rattle.buck_apt_instruction.specs.Instruction.{classes, classes_of, classes_before};
 ghost use Rattle.buck_rule.specs.Stored.{Answers};
 ghost use Rattle.buck_rule.specs.Relation.{Meets};
 ghost use Rattle.buck_book_postings.specs.inner.Pricing.{CanPrice, IsSection, StandsAt, ArePriced, AreBelow, IsFirstWrong};
@@ -8,7 +8,7 @@ ghost use Rattle.buck_book_postings.specs.inner.Running.{standings_of};
 
 use crate::running::Running;
 use crate::targets::targets_sum;
-use buck_apt::{Assortment, Instruction};
+use buck_apt_instruction::{Assortment, Instruction};
 use buck_rule::{Rule, Standing, meets};
 use std::alloc::{AllocError, Global};
 

@@ -1,6 +1,6 @@
 //! What runs on along postings: a book and a walk hold one each.
 ghost use Rattle.std.specs.Prelude.{ℕ, List, ◌≡◌, ◌+◌, ◌<◌, ◌≤◌, ◌^◌, ◌==◌, [], IfOk, OnOk, All, cond, length, slice_index, slice_set};
-ghost use Rattle.buck_apt.specs.Instruction.{InstructionParts, classes};
+ghost use Rattle.buck_apt_instruction.specs.Instruction.{InstructionParts, classes};
 ghost use Rattle.buck_rule.specs.Stored.{Answers};
 ghost use Rattle.buck_value.specs.Allowed.{IsAllowed, class_of, end_of};
 ghost use Rattle.buck_dp.specs.Cutting.{IsCutFrom};
@@ -15,7 +15,7 @@ ghost use Rattle.buck_book_postings.specs.declared.posting.TheConstants.{MOST_PO
 use crate::plan::Plan;
 use crate::posting::Posting;
 use crate::pricing::prices_by;
-use buck_apt::Instruction;
+use buck_apt_instruction::Instruction;
 use buck_record::Memory;
 use buck_rule::{Rule, Standing};
 use buck_stem::Stem;

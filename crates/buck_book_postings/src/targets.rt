@@ -1,10 +1,10 @@
 //! Which targets may come into force.
 ghost use Rattle.std.specs.Prelude.{◌≡◌, ◌+◌, ◌*◌, ◌<◌, ◌≤◌, ◌^◌, IfErr, OnOk, length, take, drop, sum, Some};
-ghost use Rattle.buck_apt.specs.Instruction.{classes, classes_of};
+ghost use Rattle.buck_apt_instruction.specs.Instruction.{classes, classes_of};
 ghost use Rattle.buck_book_postings.specs.Targets.{AreTargets, IsTargetsFault, targets_sum};
 
-use buck_apt::slots::{MOST_TARGETS_TOGETHER, TARGETS};
-use buck_apt::{Assortment, Instruction};
+use buck_apt_instruction::slots::{MOST_TARGETS_TOGETHER, TARGETS};
+use buck_apt_instruction::{Assortment, Instruction};
 use thiserror::Error;
 
 /// Why targets are refused.

@@ -1,7 +1,7 @@
 //! A way through the postings of a history.
 ghost use Rattle.std.specs.Prelude.{◌≡◌, ◌+◌, ◌<◌, ◌≤◌, ◌==◌, ◌↔◌, IsTrue, IfOk, IfSome, IfNone, length, slice_get, Some};
 ghost use Rattle.std.specs.Option.{option_map};
-ghost use Rattle.buck_apt.specs.Instruction.{IsInstruction, classes};
+ghost use Rattle.buck_apt_instruction.specs.Instruction.{IsInstruction, classes};
 ghost use Rattle.buck_rule.specs.Standing.{IsInRange};
 ghost use Rattle.buck_rule.specs.Stored.{Answers};
 ghost use Rattle.buck_book_postings.specs.Posting.{ends_of, cuts_since_end, targets_of};
@@ -16,7 +16,7 @@ ghost use Rattle.buck_book_postings.specs.declared.posting.TheConstants.{MOST_PO
 use crate::posting::Posting;
 use crate::pricing::{first_wrong, prices_by};
 use crate::running::Running;
-use buck_apt::Instruction;
+use buck_apt_instruction::Instruction;
 use buck_record::Memory;
 use buck_rule::{Rule, Standing};
 use buck_value::Sheet;

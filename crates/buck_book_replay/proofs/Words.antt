@@ -10,7 +10,7 @@ pub use Rattle.buck_book_journal.specs.Journal.{version_at, prices_then, Begins}
 pub use Rattle.std.proofs.lemmas.Grind.{common_steps}
 pub use Rattle.std.proofs.lemmas.List.{length_push, length-map, map-append}
 pub use Rattle.std.proofs.lemmas.Option.{slice_get_within, slice_get_cases, same_Some}
-pub use Rattle.buck_apt.specs.Instruction.{InstructionParts, IsInstruction, AssortmentParts, IsClass, index_of}
+pub use Rattle.buck_apt_instruction.specs.Instruction.{InstructionParts, IsInstruction, AssortmentParts, IsClass, index_of}
 pub use Rattle.buck_book_postings.specs.Posting.{planned_version, ends_of, cuts_since_end}
 pub use Rattle.buck_book_postings.specs.History.{HistoryParts, IsLawful, Holds, PricesMeet, sheet_at, Follows, standing_of, prices_at}
 pub use Rattle.buck_book_postings.proofs.Ends.{take_one_more, ends_take-le, ends_with_end, cuts_with_end, ends_without}
@@ -24,7 +24,7 @@ pub use Rattle.buck_book_replay.specs.Order.{IsRightUnder, IsInOrderBefore, IsEn
 pub use Rattle.buck_book_replay.specs.inner.Replay.{IsOutvalued, IsDoubtful, NoneDoubtful, IsFirstDoubtful, IsFound, sheet_then, along, IsPassed}
 pub use Rattle.buck_value.specs.Sheet.{SheetParts}
 pub use Rattle.std.proofs.lemmas.Map.Made.{Contains-tail}
-pub use Rattle.buck_apt.specs.declared.class.Class.{Class}
+pub use Rattle.buck_apt_instruction.specs.declared.class.Class.{Class}
 pub use Rattle.buck_rule.specs.declared.standing.Standing.{Standing}
 pub use Rattle.buck_rule.specs.Relation.{Meets}
 pub use Rattle.buck_value.specs.Allowed.{Allows}

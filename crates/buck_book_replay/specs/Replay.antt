@@ -1,6 +1,6 @@
 -- Why a journal isn't lawful: the first fault that stands in it.
 use Rattle.std.specs.Prelude.{◌≡◌, ◌≢◌, ℕ, ◌+◌, ◌<◌, ◌≤◌, ◌⊎◌, List, length, take, slice_get, Some}
-use Rattle.buck_apt.specs.Instruction.{InstructionParts, classes}
+use Rattle.buck_apt_instruction.specs.Instruction.{InstructionParts, classes}
 use Rattle.buck_value.specs.declared.log.Log.{Log}
 use Rattle.buck_value.specs.Sheet.{SheetParts}
 use Rattle.buck_dp.specs.Best.{IsAdmissible, cutting_worth}

@@ -1,12 +1,12 @@
 //! A journal that is judged.
 ghost use Rattle.std.specs.Prelude.{◌≡◌, ◌<◌, ◌≤◌, IfOk, IfNone, IfSome, length, map};
-ghost use Rattle.buck_apt.specs.Instruction.{IsInstruction};
+ghost use Rattle.buck_apt_instruction.specs.Instruction.{IsInstruction};
 ghost use Rattle.buck_book_postings.specs.History.{prices_at, sheet_at};
 ghost use Rattle.buck_book_journal.specs.Journal.{history_of};
 ghost use Rattle.buck_book_replay.specs.inner.Sheets.{AreMade, IsMissing};
 
 use crate::sheets::{new_sheet, prices_of};
-use buck_apt::Instruction;
+use buck_apt_instruction::Instruction;
 use buck_book_journal::Journal;
 use buck_book_postings::Posting;
 use buck_record::Memory;

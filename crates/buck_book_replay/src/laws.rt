@@ -1,5 +1,5 @@
 //! What follows from the definitions of a replay, for all histories: each law is the contract of an empty function.
-ghost use Rattle.buck_apt.specs.Instruction.{IsInstruction};
+ghost use Rattle.buck_apt_instruction.specs.Instruction.{IsInstruction};
 ghost use Rattle.buck_book_postings.specs.History.{HistoryParts, IsLawful};
 ghost use Rattle.buck_book_journal.specs.declared.replay_fault.ReplayFault.{ReplayFault};
 ghost use Rattle.buck_book_replay.specs.Replay.{IsFirstFault};

@@ -15,7 +15,7 @@ use crate::case::Case;
 use crate::checks::{check_end, check_posting, sheet_in_force, version_of};
 use crate::outvalued::{first_by_size, first_doubtful};
 use crate::sheets::first_sheets;
-use buck_apt::Instruction;
+use buck_apt_instruction::Instruction;
 use buck_book_journal::{Journal, ReplayFault};
 use buck_book_postings::{Posting, Walk};
 use buck_value::Sheet;

@@ -3,7 +3,7 @@ ghost use Rattle.std.specs.Prelude.{◌≡◌, ◌<◌, ◌≤◌, IfOk, IfNone,
 ghost use Rattle.buck_book_postings.specs.History.{prices_at, sheet_at};
 ghost use Rattle.buck_book_replay.specs.inner.Sheets.{AreMade, IsMissing};
 
-use buck_apt::Instruction;
+use buck_apt_instruction::Instruction;
 use buck_record::Memory;
 use buck_value::Sheet;
 use std::alloc::Global;

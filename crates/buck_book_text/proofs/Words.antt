@@ -9,7 +9,7 @@ pub use Rattle.std.proofs.lemmas.Bool.Decides.{nat_tests}
 pub use Rattle.buck_record.specs.Item.{ItemParts}
 pub use Rattle.buck_record.specs.checking.Rules.{within, all_within, slot, one_to, file_slot}
 pub use Rattle.buck_record.proofs.PassLemmas.{both, within_ok, check_ok}
-pub use Rattle.buck_apt.specs.declared.slots.TheConstants.{TARGETS}
+pub use Rattle.buck_apt_instruction.specs.declared.slots.TheConstants.{TARGETS}
 pub use Rattle.buck_stem.specs.declared.file.slots.TheConstants.{SAMPLES, MOST_ZONES, SPECIES, MOST_SAMPLES, STARTS}
 pub use Rattle.buck_stem.specs.file.Stm.{zones_of}
 pub use Rattle.buck_value.specs.declared.log.Log.{Log}
@@ -29,7 +29,7 @@ pub use Rattle.buck_record.specs.checking.Table.{is_at}
 pub use Rattle.std.proofs.lemmas.Grind.{common_steps}
 pub use Rattle.std.proofs.lemmas.List.{length-append, length_push, drop_all, get_or_default, length-take-le}
 pub use Rattle.std.proofs.lemmas.Option.{slice_get_within, slice_get-get_or}
-pub use Rattle.buck_apt.specs.Instruction.{InstructionParts, IsInstruction, IsWithin}
+pub use Rattle.buck_apt_instruction.specs.Instruction.{InstructionParts, IsInstruction, IsWithin}
 pub use Rattle.buck_book_postings.specs.Posting.{ends_of, harvester_of}
 pub use Rattle.buck_book_postings.specs.History.{HistoryParts, IsLawful, PricesMeet, sheet_at, Follows, prices_at}
 pub use Rattle.buck_book_postings.proofs.Ends.{ends-le}

@@ -2,7 +2,7 @@
 ghost use Rattle.std.specs.Prelude.{◌≡◌, ℕ, ◌+◌, ◌≤◌, List, length, slice_get, sum_by, Some, Ok};
 ghost use Rattle.buck_record.specs.Item.{ItemParts};
 ghost use Rattle.buck_record.specs.bytes.Record.{items_of};
-ghost use Rattle.buck_apt.specs.Instruction.{IsInstruction};
+ghost use Rattle.buck_apt_instruction.specs.Instruction.{IsInstruction};
 ghost use Rattle.buck_book_postings.specs.declared.posting.Posting.{Posting};
 ghost use Rattle.buck_book_postings.specs.History.{HistoryParts, IsLawful};
 ghost use Rattle.buck_book_journal.specs.Journal.{JournalParts};

@@ -1,6 +1,6 @@
 -- What C asks of runs over files.
 use Rattle.std.specs.Prelude.{◌≡◌, ◌==◌, ℕ, cond, Option, Some, None}
-use Rattle.buck_apt.specs.Settings.{SettingsParts, IsSettings}
+use Rattle.buck_apt_instruction.specs.Settings.{SettingsParts, IsSettings}
 use Rattle.buck_rule.specs.declared.named.NamedRule.{NamedRule}
 use Rattle.buckfleet_tasks.specs.declared.journals.CrossCheck.{CrossCheck}
 use Rattle.buckfleet_trial_draws.specs.declared.orders.Draws.{Draws}

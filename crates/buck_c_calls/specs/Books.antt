@@ -1,7 +1,7 @@
 -- What the calls of a kept book answer, and what they leave of it.
 use Rattle.std.specs.Prelude.{◌≡◌, ◌⊎◌, ◌==◌, ◌<◌, ◌≤◌, ℕ, List, length, Option, Some, None, Ok, Err, if◌then◌else◌}
 use Rattle.buck_apt.specs.Apt.{apt_of}
-use Rattle.buck_apt.specs.Instruction.{InstructionParts}
+use Rattle.buck_apt_instruction.specs.Instruction.{InstructionParts}
 use Rattle.buck_book_postings.specs.declared.demand.DemandRefusal.{DemandRefusal}
 use Rattle.buck_book_postings.specs.declared.demand.DemandRefusal.TheVariants as demand
 use Rattle.buck_book_postings.specs.Entry.{EntryParts}

@@ -1,6 +1,6 @@
 -- What the calls answer over journals.
 use Rattle.std.specs.Prelude.{◌≡◌, ◌<◌, ◌≤◌, ◌+◌, ℕ, List, ◌∷◌, length, Some}
-use Rattle.buck_apt.specs.Settings.{SettingsParts}
+use Rattle.buck_apt_instruction.specs.Settings.{SettingsParts}
 use Rattle.buckfleet_tasks.specs.declared.journals.CrossCheck.{CrossCheck}
 use Rattle.buckfleet_engine_files.specs.Reading.{apt_with}
 use Rattle.buckfleet_engine_cross_check.specs.Answers.{AnswersCheckWith}

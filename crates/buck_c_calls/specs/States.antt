@@ -1,6 +1,6 @@
 -- How a kept book stands, as a caller in another language sees it.
 use Rattle.std.specs.Prelude.{◌≡◌, ◌⊎◌, ℕ, ◌≤◌, List, [], length, Option, Some, None}
-use Rattle.buck_apt.specs.Instruction.{classes}
+use Rattle.buck_apt_instruction.specs.Instruction.{classes}
 use Rattle.buck_book_postings.specs.Posting.{targets_of}
 use Rattle.buck_book_postings.specs.Counts.{AreClassCounts}
 use Rattle.buck_book_postings.specs.Degree.{IsDegree}

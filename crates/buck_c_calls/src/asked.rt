@@ -1,8 +1,8 @@
 //! What C asks of runs over files: their rules, their numbers and their draws.
 ghost use Rattle.std.specs.Prelude.{◌≡◌, ◌↔◌, IfNone, IfOk, IfErr, IfSome, IsTrue};
 ghost use Rattle.std.specs.List.{AllZip};
-ghost use Rattle.buck_apt.specs.Instruction.{IsWithin};
-ghost use Rattle.buck_apt.specs.Settings.{SettingsParts};
+ghost use Rattle.buck_apt_instruction.specs.Instruction.{IsWithin};
+ghost use Rattle.buck_apt_instruction.specs.Settings.{SettingsParts};
 ghost use Rattle.buckfleet_tasks.specs.declared.journals.CrossCheck.{CrossCheck};
 ghost use Rattle.buckfleet_tasks.specs.declared.combination.Combination.{Combination};
 ghost use Rattle.buck_c_calls.specs.Asked.{AreSettings, IsCombination, IsCrossCheck, draws_by, told};
@@ -10,7 +10,7 @@ ghost use Rattle.buck_c_calls.specs.inner.Stopped.{AreUncombined};
 
 use crate::book::rule_of;
 use crate::several::Stop;
-use buck_apt::Settings;
+use buck_apt_instruction::Settings;
 use buck_rule::NamedRule;
 use buckfleet_engine_cross_check::CrossCheck;
 use buckfleet_trial::Draws;

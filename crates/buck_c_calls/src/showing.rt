@@ -6,7 +6,7 @@ ghost use Rattle.buck_value.specs.Allowed.{Allows, IsAllowed, class_in, top_diam
 ghost use Rattle.buck_c_calls.specs.Shown.{IsCutUnder, ShowsCut, ShowsLog};
 ghost use Rattle.buck_c_calls.specs.declared.showing.CutLog.{CutLog};
 
-use buck_apt::{Assortment, Class};
+use buck_apt_instruction::{Assortment, Class};
 use buck_book_postings::Entry;
 use buck_stem::Stem;
 use buck_value::{Log, Sheet, column_of, row_of, volume_of, worth_of_piece};

@@ -1,6 +1,6 @@
 -- Felled stems as a caller in another language has them, and why one isn't cut.
 use Rattle.std.specs.Prelude.{◌≡◌, ℕ, ◌<◌, ◌≤◌, List, length, map}
-use Rattle.buck_apt.specs.Instruction.{IsWithin}
+use Rattle.buck_apt_instruction.specs.Instruction.{IsWithin}
 use Rattle.buck_stem.specs.Stem.{StemParts, IsStem, stem_of}
 use Rattle.buck_c_session.specs.declared.felling.Felled.{Felled}
 use Rattle.buck_c_session.specs.declared.felling.Zone.{Zone}

@@ -1,6 +1,6 @@
 -- What is said of a felled stem that isn't cut: how it would be cut now, and what other logs of it are worth.
 use Rattle.std.specs.Prelude.{◌≡◌, ℕ, ◌<◌, ◌≤◌, List}
-use Rattle.buck_apt.specs.Instruction.{IsWithin}
+use Rattle.buck_apt_instruction.specs.Instruction.{IsWithin}
 use Rattle.buck_stem.specs.Stem.{StemParts, IsStem}
 use Rattle.buck_value.specs.declared.log.Log.{Log}
 use Rattle.buck_book_postings.specs.Entry.{EntryParts}

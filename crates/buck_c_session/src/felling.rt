@@ -1,6 +1,6 @@
 //! Stems as a caller in another language has them, cut one by one.
 ghost use Rattle.std.specs.Prelude.{◌≡◌, IfOk, IfErr, IsOk, map};
-ghost use Rattle.buck_apt.specs.Instruction.{IsWithin};
+ghost use Rattle.buck_apt_instruction.specs.Instruction.{IsWithin};
 ghost use Rattle.buck_stem.specs.Stem.{IsStem};
 ghost use Rattle.buck_book_cutter.specs.Cut.{HasCut};
 ghost use Rattle.buck_c_session.specs.Kept.{ArePricesBy, SameTerms};

@@ -7,7 +7,7 @@ ghost use Rattle.buck_c_session.specs.Looked.{IsPlannedNow};
 ghost use Rattle.buck_book_postings.specs.declared.posting.TheConstants.{MOST_POSTINGS};
 ghost use Rattle.buck_book_postings.specs.declared.ready.CutFault.TheVariants.{Full};
 
-use buck_apt::Instruction;
+use buck_apt_instruction::Instruction;
 use buck_book_cutter::Cutter;
 use buck_book_postings::{Book, CutFault, Demand, DemandRefusal, Entry, Plan};
 use buck_record::Memory;

@@ -1,6 +1,6 @@
 //! Felled stems that are looked at before they are cut: how one would be cut, and what other logs of it are worth.
 ghost use Rattle.std.specs.Prelude.{◌≡◌, IfOk, IfErr, IsOk, map};
-ghost use Rattle.buck_apt.specs.Instruction.{IsWithin};
+ghost use Rattle.buck_apt_instruction.specs.Instruction.{IsWithin};
 ghost use Rattle.buck_c_session.specs.Felled.{stem_by};
 ghost use Rattle.buck_c_session.specs.Looked.{IsAppraised, IsLookFault, IsPlannedNow, IsPreview, log_by};
 

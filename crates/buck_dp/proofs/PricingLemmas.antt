@@ -1,5 +1,5 @@
 -- The candidate of a log type.
-use Rattle.buck_apt.specs.Instruction.{classes_of}
+use Rattle.buck_apt_instruction.specs.Instruction.{classes_of}
 use Rattle.buck_dp.proofs.Words.{whole_steps, ◌↔◌, Contains-get_or, mul-div_left, candidate_bid, candidate_at, IsLogTypeOf, ◌≡◌, ℕ, ◌+◌, ◌-◌, ◌/◌, ◌%◌, ◌<◌, ◌≤◌, ◌⊎◌, inl, inr, suc, List, [], ◌∷◌, ◌++◌, Contains, length, get_or, slice_get}
 use Rattle.buck_dp.proofs.Words.{Some, refl, sym, subst, ap, ◌∙◌, arith, cases_lt, unwrap_or, nat_le, nat_tests, same_Some, All-contains, AssortmentParts, InstructionParts, sum_by-le, IsInstruction, IsAssortment, IsWithin, classes}
 use Rattle.buck_dp.proofs.Words.{sheet_of, price-le, mul-le-mul, last_position, row_at, LogType, log_type, log_type_at, HIGHEST_RANK, AreLogTypes, IsBand, IsBought, IsPriced, IsClassAt, HasNoPrice, point_after, Term, IsTaker, IsTerm}

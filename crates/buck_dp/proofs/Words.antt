@@ -4,7 +4,7 @@ pub use Rattle.std.proofs.Common.{zero, suc, Contains, rules, sum_by, drop, add-
 pub use Rattle.std.proofs.Common.{IsPermutation, IsSorted, Ordering}
 pub use Rattle.buck_dp.specs.inner.Words.{InstructionParts, AssortmentParts, classes, SheetParts, IsSheet, sheet_of, volume, HIGHEST_RANK, StemParts, IsStem, stem_length, Log, IsAllowed, IsBought, end_of, top_of, row_at, Cell, RowEntry}
 pub use Rattle.buck_dp.specs.inner.Words.{LogTypes, CandidateList, AssortmentSet, Candidate, Term, ListKey, IsMaskBetween, bit_at, LogType}
-pub use Rattle.buck_apt.specs.Instruction.{IsInstruction, IsAssortment, IsWithin}
+pub use Rattle.buck_apt_instruction.specs.Instruction.{IsInstruction, IsAssortment, IsWithin}
 pub use Rattle.std.proofs.lemmas.Bool.{cases_lt, cases_order, cases_eq, ne_eqb}
 pub use Rattle.std.proofs.lemmas.Option.{same_Some, none-some, slice_get-get_or, slice_get_within, get_or_from_slice_get, slice_get_read}
 pub use Rattle.std.proofs.lemmas.List.{get_or_append_left, drop_all, length-drop, get_or-append_right, get_or-append-add, drop_at, drop-append-le, take-append-le, take_all, length-set, get_or-set_other, append-nil, get_or_past, get_or_read}

@@ -2,7 +2,7 @@
 ghost use Rattle.std.specs.Prelude.{IfOk, ℕ, ◌*◌, ◌≤◌, Some};
 ghost use Rattle.buck_dp.specs.inner.LogTypes.{AreLogTypes, IsRank, log_type_at, HasLogTypes};
 
-use buck_apt::Instruction;
+use buck_apt_instruction::Instruction;
 use std::alloc::{AllocError, Global};
 
 /// A length of an assortment of an instruction. The shorter comes before the longer, then the lower assortment before

@@ -9,7 +9,7 @@ use crate::assortment_sets::AssortmentSet;
 use crate::bid::{Bid, HIGHEST_RANK};
 use crate::ends::point_from;
 use crate::log_types::LogType;
-use buck_apt::{Assortment, Class, Instruction};
+use buck_apt_instruction::{Assortment, Class, Instruction};
 use buck_value::{Sheet, bought_row, column_of, volume_of, worth_of_piece};
 use std::alloc::{AllocError, Global};
 

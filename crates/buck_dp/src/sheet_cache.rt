@@ -10,7 +10,7 @@ use crate::assortment_sets::{AssortmentSet, NumberedSet, WoodEntry, set_of};
 use crate::log_types::LogTypes;
 use crate::offering::{Cell, put_row};
 use crate::pricing::{Candidate, ListKey, Term, band_around, put_list, terms_of};
-use buck_apt::Instruction;
+use buck_apt_instruction::Instruction;
 use buck_record::Memory;
 use buck_stem::Grades;
 use buck_value::Sheet;

@@ -1,7 +1,7 @@
 -- Reasons in their order, one after the other.
 use Rattle.std.proofs.Common.{◌≡◌, ◌≢◌, ℕ, zero, suc, ◌+◌, ◌*◌, ◌<◌, ◌≤◌, ◌↔◌, inl, inr, length, Contains, Some, slice_get, slice_index, refl, sym, ◌∙◌, ap, subst, arith}
 use Rattle.std.proofs.lemmas.Bool.{cases_eq}
-use Rattle.buck_apt.specs.Instruction.{InstructionParts, AssortmentParts}
+use Rattle.buck_apt_instruction.specs.Instruction.{InstructionParts, AssortmentParts}
 use Rattle.buck_stem.specs.Stem.{StemParts, IsStem, stem_length, diameter_at, HasGradesOf}
 use Rattle.buck_stem.specs.points.Profile.{IsMask}
 use Rattle.buck_value.specs.declared.log.Log.{Log}

@@ -7,7 +7,7 @@ ghost use Rattle.buck_dp_own_logs.specs.Judged.{IsJudged};
 ghost use Rattle.buck_dp_own_logs.specs.inner.Measured.{HoldsMeasured};
 
 use crate::reason::Reason;
-use buck_apt::{Assortment, Instruction};
+use buck_apt_instruction::{Assortment, Instruction};
 use buck_stem::{Grades, Stem};
 use buck_value::{Log, Sheet, column_of, log_worth, row_of, takes};
 

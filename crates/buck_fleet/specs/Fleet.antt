@@ -1,6 +1,6 @@
 -- A fleet as clauses see it.
 use Rattle.std.specs.Prelude.{ℕ}
-use Rattle.buck_apt.specs.Instruction.{InstructionParts}
+use Rattle.buck_apt_instruction.specs.Instruction.{InstructionParts}
 use Rattle.buck_board.specs.declared.board.Board.{Board}
 use Rattle.buck_board.specs.Board.{IsSeatOf}
 use Rattle.buck_fleet.specs.Seat.{SeatParts}

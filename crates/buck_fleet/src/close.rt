@@ -15,7 +15,7 @@ ghost use Rattle.buck_fleet.specs.declared.seat.TheConstants.{MOST_SEATS};
 use crate::desk::Desk;
 use crate::fleet::Fleet;
 use crate::seat::Seat;
-use buck_apt::Instruction;
+use buck_apt_instruction::Instruction;
 use buck_book_postings::{Kept, Parts, Posting};
 use buck_fleet_close_fault::CloseFault;
 use buck_value::Sheet;

@@ -10,7 +10,7 @@ ghost use Rattle.buck_fleet.specs.Refused.{GivesBack};
 use crate::desk::Desk;
 use crate::fault::{RetargetFault, TryFault};
 use crate::seat::{DemandReply, Path, Reply, Seat};
-use buck_apt::Instruction;
+use buck_apt_instruction::Instruction;
 use buck_board::{Board, Snapshot};
 use buck_book_postings::{Kept, Plan, Refusal};
 use buck_rule::Standing;

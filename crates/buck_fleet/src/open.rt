@@ -10,7 +10,7 @@ ghost use Rattle.buck_fleet.specs.declared.seat.TheConstants.{MOST_SEATS};
 use crate::desk::Desk;
 use crate::fleet::Fleet;
 use crate::seat::{MOST_SEATS, Seat};
-use buck_apt::Instruction;
+use buck_apt_instruction::Instruction;
 use buck_board::{Board, BoardSeat};
 use buck_book_postings::{Book, Kept, MOST_POSTINGS};
 use buck_record::Memory;

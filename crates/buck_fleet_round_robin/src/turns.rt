@@ -5,7 +5,7 @@ ghost use Rattle.buck_book_postings.specs.declared.ready.CutFault.TheVariants.{F
 ghost use Rattle.buck_book_postings.specs.Pricing.{AreSheetsBy};
 ghost use Rattle.buck_fleet_round_robin.specs.Turn.{HasCutInTurn, stems_in_all};
 
-use buck_apt::Instruction;
+use buck_apt_instruction::Instruction;
 use buck_book_cutter::Cutter;
 use buck_book_postings::{Book, CutFault, MOST_POSTINGS};
 use buck_rule::{Rule, Standing};

@@ -1,6 +1,6 @@
 -- What is true of every world.
 use Rattle.std.specs.Prelude.{◌≡◌, ℕ, ◌≤◌, List, length, map}
-use Rattle.buck_apt.specs.Instruction.{IsInstruction}
+use Rattle.buck_apt_instruction.specs.Instruction.{IsInstruction}
 use Rattle.buck_board.specs.Front.{IsSeenUpTo}
 use Rattle.buck_book_postings.specs.Plan.{PlanParts}
 use Rattle.buck_book_postings.specs.History.{HistoryParts, IsLawful, version_of}

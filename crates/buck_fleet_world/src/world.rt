@@ -14,7 +14,7 @@ use crate::fault::StepFault;
 use crate::harvester::Harvester;
 use crate::stage::Stage;
 use crate::turns;
-use buck_apt::Instruction;
+use buck_apt_instruction::Instruction;
 use buck_book_postings::{Book, Posting};
 use buck_record::Memory;
 use buck_rule::{Rule, Standing};

@@ -1,7 +1,7 @@
 //! The section of an assortment: what it is, its curves and its matrices.
 ghost use Rattle.std.specs.Prelude.{◌<◌, length};
 
-use buck_apt::Assortment;
+use buck_apt_instruction::Assortment;
 use buck_page_charts::{write_degree_chart, write_matrices, write_price_chart};
 use buck_page_figures::{Figures, Part};
 use buck_page_sections::{is_steered, mean_log};

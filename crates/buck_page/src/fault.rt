@@ -1,5 +1,5 @@
 //! The page of a journal that isn't lawful.
-use buck_apt::Instruction;
+use buck_apt_instruction::Instruction;
 use buck_book_journal::ReplayFault;
 use buck_book_postings::Posting;
 use buck_page_sections::{Files, PAGE_END, SIGN, begin_page};

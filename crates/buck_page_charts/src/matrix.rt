@@ -2,7 +2,7 @@
 ghost use Rattle.std.specs.Prelude.{◌≡◌, ◌<◌, ◌≤◌, ◌*◌, ◌^◌, length, max};
 ghost use Rattle.std.specs.Int.{div_ceil};
 
-use buck_apt::Assortment;
+use buck_apt_instruction::Assortment;
 use buck_page_figures::{Figures, part, sum_of};
 use buck_page_text::{
     Difference, Fixed, Grouped, Known, Several, Signed, change_of, difference_of, half_up,

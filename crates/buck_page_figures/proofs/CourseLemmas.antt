@@ -8,7 +8,7 @@ use Rattle.std.proofs.lemmas.List.{take-append-le}
 use Rattle.std.proofs.Math.Nat.{div-mul-le_self, mul-div_cancel_left}
 use Rattle.std.proofs.Math.Seq.{take-length}
 use mathlib.Core.List.{append_assoc}
-use Rattle.buck_apt.specs.Instruction.{InstructionParts, classes}
+use Rattle.buck_apt_instruction.specs.Instruction.{InstructionParts, classes}
 use Rattle.buck_book_postings.specs.declared.posting.Posting.{Posting}
 use Rattle.buck_book_postings.specs.declared.posting.Posting.TheVariants.{Cut, Demand}
 use Rattle.buck_book_postings.specs.Posting.{ends_of, opening_targets, targets_after, targets_of}

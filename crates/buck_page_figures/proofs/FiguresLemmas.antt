@@ -2,7 +2,7 @@
 use Rattle.std.proofs.Common.{◌≡◌, ◌+◌, ◌-◌, List, length, take, subst, ap, ◌∙◌, arith}
 use Rattle.std.specs.Prelude.{min, slice_get, Some}
 use Rattle.std.proofs.Math.Seq.{take-length}
-use Rattle.buck_apt.specs.Instruction.{InstructionParts}
+use Rattle.buck_apt_instruction.specs.Instruction.{InstructionParts}
 use Rattle.buck_book_postings.specs.declared.posting.Posting.{Posting}
 use Rattle.buck_book_postings.specs.Posting.{ends_of, targets_of}
 use Rattle.buck_book_postings.specs.History.{prices_at}

@@ -7,9 +7,9 @@ use Rattle.std.specs.Option.{option_map}
 use Rattle.std.proofs.lemmas.Option.{get_or_from_slice_get, slice_get-map, slice_get_within, slice_get-get_or}
 use Rattle.std.proofs.lemmas.List.Elements.{All-contains}
 use Rattle.std.proofs.lemmas.List.Sums.{sum_by-cons}
-use Rattle.buck_apt.specs.declared.class.Class.{Class}
-use Rattle.buck_apt.specs.Instruction.{AssortmentParts, InstructionParts, IsAssortment, IsInstruction, IsWithin, classes_of, index_of, place_in}
-use Rattle.buck_apt.specs.Grades.{all_grades, grade_free, taking_all}
+use Rattle.buck_apt_instruction.specs.declared.class.Class.{Class}
+use Rattle.buck_apt_instruction.specs.Instruction.{AssortmentParts, InstructionParts, IsAssortment, IsInstruction, IsWithin, classes_of, index_of, place_in}
+use Rattle.buck_apt_instruction.specs.Grades.{all_grades, grade_free, taking_all}
 use Rattle.buck_stem.specs.Stem.{StemParts, HasGradesOf, grade_at}
 use Rattle.buck_value.specs.declared.log.Log.{Log}
 use Rattle.buck_value.specs.Sheet.{base_prices, price_of}

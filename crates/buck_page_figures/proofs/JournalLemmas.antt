@@ -4,7 +4,7 @@ use Rattle.std.specs.Prelude.{slice_get, Some, sum_by}
 use Rattle.std.proofs.lemmas.Option.{slice_get_read}
 use Rattle.std.proofs.lemmas.List.{append-nil}
 use Rattle.std.proofs.lemmas.List.Sums.{sum_by-append, sum_by-cons}
-use Rattle.buck_apt.specs.Instruction.{InstructionParts, IsInstruction, classes}
+use Rattle.buck_apt_instruction.specs.Instruction.{InstructionParts, IsInstruction, classes}
 use Rattle.buck_book_postings.specs.declared.posting.Posting.{Posting}
 use Rattle.buck_book_postings.specs.Posting.{opening_targets}
 use Rattle.buck_book_postings.proofs.Wanted.{opening_valid}

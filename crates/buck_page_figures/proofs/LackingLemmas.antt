@@ -8,7 +8,7 @@ use Rattle.std.proofs.lemmas.List.Elements.{All-head, All-tail, All-push, All-we
 use Rattle.std.proofs.lemmas.List.Sorted.{IsNonDecreasingBy-push, IsNonDecreasingBy-short}
 use Rattle.std.proofs.lemmas.List.Sums.{sum_by-cons, sum_by_push, sum_by_more, sum_by-take-le, get_or-le-sum_by}
 use Rattle.std.proofs.lemmas.Option.{same_Some, slice_get_within, get_or_from_slice_get}
-use Rattle.buck_apt.specs.Instruction.{InstructionParts, AssortmentParts, classes_of, classes_before}
+use Rattle.buck_apt_instruction.specs.Instruction.{InstructionParts, AssortmentParts, classes_of, classes_before}
 use Rattle.buck_book_postings.specs.Degree.{part_of}
 use Rattle.buck_page_figures.specs.Lacking.{IsLackOf, IsShort, names, place_of}
 use Rattle.buck_page_figures.specs.inner.Lacking.{AreLacksBefore, IsBefore}

@@ -4,7 +4,7 @@ use Rattle.std.specs.Prelude.{slice_get, Some}
 use Rattle.std.proofs.lemmas.Bool.{cases_Bool}
 use Rattle.std.proofs.lemmas.Option.{slice_get_cases, slice_get_within, slice_get-get_or, get_or_from_slice_get}
 use Rattle.std.proofs.lemmas.List.Elements.{All-from_get_or}
-use Rattle.buck_apt.specs.Instruction.{InstructionParts, IsInstruction, classes}
+use Rattle.buck_apt_instruction.specs.Instruction.{InstructionParts, IsInstruction, classes}
 use Rattle.buck_value.proofs.Prices.{length-base_prices}
 use Rattle.buck_book_postings.specs.declared.posting.Posting.{Posting}
 use Rattle.buck_book_postings.specs.declared.posting.Posting.TheVariants.{Cut, Demand}

@@ -8,7 +8,7 @@ use Rattle.std.proofs.Math.Nat.{le_of_mul-le-mul_right, mul-le-mul_right}
 use Rattle.std.proofs.lemmas.Bool.{cases_lt, le-ltb, ltb-true, ltb-false}
 use Rattle.std.proofs.lemmas.Fn.{always_returns_same}
 use Rattle.std.proofs.lemmas.List.Sorted.{IsStrictWeakOrder-by_number, ties_stay_sorted}
-use Rattle.buck_apt.specs.Instruction.{InstructionParts}
+use Rattle.buck_apt_instruction.specs.Instruction.{InstructionParts}
 use Rattle.buck_page_figures.specs.Lacking.{AreMostFirst, gap_of, place_of}
 use Rattle.buck_page_figures.specs.declared.lack.Lack.{Lack}
 use denote.Param.Members.{Mut}

@@ -8,7 +8,7 @@ use Rattle.std.proofs.lemmas.Option.{same_Some, none-some, slice_get_within, get
 use Rattle.std.proofs.lemmas.Bool.Decides.{nat_tests}
 use Rattle.std.specs.List.{zip}
 use Rattle.std.proofs.lemmas.List.Sums.{sum_by-cons, sum_by-take-drop, sum_by_more_le}
-use Rattle.buck_apt.specs.Instruction.{InstructionParts, AssortmentParts, classes, classes_of, classes_before}
+use Rattle.buck_apt_instruction.specs.Instruction.{InstructionParts, AssortmentParts, classes, classes_of, classes_before}
 use Rattle.buck_book_postings.specs.Degree.{degree_of, shared_of, part_of}
 use Rattle.buck_book_postings.proofs.Degrees.{shared_low, degree_low}
 use Rattle.buck_page_figures.specs.Degrees.{rows_of, diameter_degree_of, weighed, counted}

@@ -11,7 +11,7 @@ use Rattle.std.proofs.lemmas.List.Elements.{filter-append}
 use Rattle.std.proofs.lemmas.List.Sums.{sum_by-cons, sum_by_push, length-filter, count_by-le-length}
 use Rattle.std.proofs.lemmas.List.{length-replicate, get_or-replicate}
 use Rattle.std.proofs.lemmas.Bool.Decides.{eqb_tells}
-use Rattle.buck_apt.specs.Instruction.{InstructionParts}
+use Rattle.buck_apt_instruction.specs.Instruction.{InstructionParts}
 use Rattle.buck_value.specs.declared.log.Log.{Log}
 use Rattle.buck_book_postings.specs.declared.posting.Posting.{Posting}
 use Rattle.buck_book_postings.specs.declared.posting.Posting.TheVariants.{Cut, Demand}
@@ -19,7 +19,7 @@ use Rattle.buck_book_postings.specs.Posting.{harvester_of}
 use Rattle.buck_page_figures.specs.Figures.{IsUnsteered, cuts_in, demands_in}
 use Rattle.buck_page_figures.specs.Sums.{AreSums}
 use Rattle.buck_page_figures.specs.inner.Adding.{AreSumsTogether, IsPassed, logs_of}
-use Rattle.buck_apt.specs.Instruction.{classes, index_of}
+use Rattle.buck_apt_instruction.specs.Instruction.{classes, index_of}
 use Rattle.buck_stem.specs.Stem.{StemParts}
 use Rattle.buck_book_postings.specs.Counts.{AreClassCounts, class_logs_in}
 use Rattle.buck_page_figures.specs.inner.Counted.{AreCountsOn, AreCountsWith}

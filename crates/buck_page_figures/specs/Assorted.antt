@@ -1,6 +1,6 @@
 -- What the logs of each assortment come to.
 use Rattle.std.specs.Prelude.{◌≡◌, ℕ, ◌==◌, cond, List, length, sum_by, slice_get, Some}
-use Rattle.buck_apt.specs.Instruction.{InstructionParts}
+use Rattle.buck_apt_instruction.specs.Instruction.{InstructionParts}
 use Rattle.buck_value.specs.declared.log.Log.{Log}
 use Rattle.buck_value.specs.Allowed.{worth_of}
 use Rattle.buck_book_postings.specs.declared.posting.Posting.{Posting}

@@ -1,7 +1,7 @@
 -- The degree of apportionment taken apart: of the diameter rows, and of the lengths within each row.
 use Rattle.std.specs.Prelude.{◌≡◌, ℕ, zero, suc, ◌*◌, ◌/◌, ◌==◌, cond, List, [], ◌∷◌, map, take, drop, sum, sum_by, length, Option, Some, None, slice_get}
 use Rattle.std.specs.List.{zip}
-use Rattle.buck_apt.specs.Instruction.{InstructionParts, AssortmentParts}
+use Rattle.buck_apt_instruction.specs.Instruction.{InstructionParts, AssortmentParts}
 use Rattle.buck_book_postings.specs.Degree.{degree_of, part_of}
 use Rattle.buck_page_figures.specs.declared.degrees.Degrees.{Degrees}
 

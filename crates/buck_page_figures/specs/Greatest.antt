@@ -1,7 +1,7 @@
 -- The longest stem, and the one whose steering cost most.
 use Rattle.std.specs.Prelude.{◌≡◌, ℕ, ◌+◌, ◌-◌, ◌<◌, ◌≤◌, List, map, slice_index, Option, Some, None}
 use Rattle.std.specs.List.{zip}
-use Rattle.buck_apt.specs.Instruction.{InstructionParts}
+use Rattle.buck_apt_instruction.specs.Instruction.{InstructionParts}
 use Rattle.buck_book_postings.specs.declared.posting.Posting.{Posting}
 use Rattle.buck_page_figures.specs.Figures.{cuts_in, length_in, worth_in, at_base_in}
 

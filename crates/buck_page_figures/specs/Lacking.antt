@@ -1,6 +1,6 @@
 -- The classes that lack logs: of those cut of their assortment they have less than their target's share.
 use Rattle.std.specs.Prelude.{◌≡◌, ℕ, ◌+◌, ◌*◌, ◌-◌, ◌<◌, ◌≤◌, ◌==◌, ◌&&◌, ◌⊎◌, Bool, List, length, count_by, slice_get, slice_index, slice_index_or, sum, Some}
-use Rattle.buck_apt.specs.Instruction.{InstructionParts, AssortmentParts, classes_of, classes_before}
+use Rattle.buck_apt_instruction.specs.Instruction.{InstructionParts, AssortmentParts, classes_of, classes_before}
 use Rattle.buck_book_postings.specs.Degree.{part_of}
 use Rattle.buck_page_figures.specs.declared.lack.Lack.{Lack}
 

@@ -1,6 +1,6 @@
 -- The points of the curves: how all stands after some of the postings of all journals.
 use Rattle.std.specs.Prelude.{◌≡◌, ◌↔◌, ℕ, ◌+◌, ◌*◌, ◌/◌, ◌<◌, IsTrue, nat_le, cond, min, List, length, take, sum_by, slice_get, Some}
-use Rattle.buck_apt.specs.Instruction.{InstructionParts}
+use Rattle.buck_apt_instruction.specs.Instruction.{InstructionParts}
 use Rattle.buck_book_postings.specs.declared.posting.Posting.{Posting}
 use Rattle.buck_book_postings.specs.Posting.{ends_of, targets_of}
 use Rattle.buck_book_postings.specs.Counts.{AreClassCounts}

@@ -1,6 +1,6 @@
 -- The figures of some journals, and what can be shown of them.
 use Rattle.std.specs.Prelude.{◌≡◌, ℕ, ◌-◌, ◌<◌, List, All, length, slice_get, Some}
-use Rattle.buck_apt.specs.Instruction.{InstructionParts, classes}
+use Rattle.buck_apt_instruction.specs.Instruction.{InstructionParts, classes}
 use Rattle.buck_value.specs.Sheet.{SheetParts}
 use Rattle.buck_dp.specs.Best.{IsAdmissible}
 use Rattle.buck_book_postings.specs.declared.posting.Posting.{Posting}

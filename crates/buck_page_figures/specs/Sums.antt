@@ -1,6 +1,6 @@
 -- What postings come to, added up.
 use Rattle.std.specs.Prelude.{◌≡◌, List, sum_by}
-use Rattle.buck_apt.specs.Instruction.{InstructionParts}
+use Rattle.buck_apt_instruction.specs.Instruction.{InstructionParts}
 use Rattle.buck_book_postings.specs.declared.posting.Posting.{Posting}
 use Rattle.buck_page_figures.specs.Figures.{cuts_in, demands_in, logs_in, volume_in, length_in, logged_in, trim_in, worth_in, at_base_in}
 use Rattle.buck_page_figures.specs.declared.sums.Sums.{Sums}

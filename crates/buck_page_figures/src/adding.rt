@@ -1,6 +1,6 @@
 //! What cuts and demands come to, added up.
 ghost use Rattle.std.specs.Prelude.{◌≡◌, ◌+◌, ◌*◌, ◌≤◌, [], ◌∷◌, All, IfOk, OnOk};
-ghost use Rattle.buck_apt.specs.Instruction.{InstructionParts};
+ghost use Rattle.buck_apt_instruction.specs.Instruction.{InstructionParts};
 ghost use Rattle.buck_stem.specs.Stem.{IsStem};
 ghost use Rattle.buck_value.specs.Allowed.{IsAllowed};
 ghost use Rattle.buck_dp.specs.Best.{IsAdmissible, cutting_worth};

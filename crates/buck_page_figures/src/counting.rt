@@ -1,6 +1,6 @@
 //! How many logs there are of each class.
 ghost use Rattle.std.specs.Prelude.{◌≡◌, ℕ, ◌+◌, ◌<◌, ◌^◌, All, IfOk, length, replicate, slice_index};
-ghost use Rattle.buck_apt.specs.Instruction.{IsClass, classes, index_of};
+ghost use Rattle.buck_apt_instruction.specs.Instruction.{IsClass, classes, index_of};
 ghost use Rattle.buck_value.specs.Allowed.{IsAllowed, class_of};
 ghost use Rattle.buck_page_figures.specs.inner.Counted.{AreCountsOn, AreCountsWith, AreOfPosting};
 

@@ -1,6 +1,6 @@
 //! A way through the postings of some journals, with all that they come to.
 ghost use Rattle.std.specs.Prelude.{◌≡◌, ◌+◌, ◌*◌, ◌<◌, ◌≤◌, ◌⊎◌, [], ◌∷◌, IfOk, length};
-ghost use Rattle.buck_apt.specs.Instruction.{classes};
+ghost use Rattle.buck_apt_instruction.specs.Instruction.{classes};
 ghost use Rattle.buck_book_postings.specs.Posting.{opening_targets, targets_after};
 ghost use Rattle.buck_page_figures.specs.Figures.{base_sheet};
 ghost use Rattle.buck_page_figures.specs.Journals.{postings_of};
@@ -8,7 +8,7 @@ ghost use Rattle.buck_page_figures.specs.inner.Course.{ArePassable, IsCourse, Is
 ghost use Rattle.buck_book_postings.specs.declared.posting.TheConstants.{MOST_POSTINGS};
 
 use crate::account::{Account, account_posting, no_account};
-use buck_apt::Instruction;
+use buck_apt_instruction::Instruction;
 use buck_book_journal::Journal;
 use buck_book_postings::{Posting, Walk};
 use buck_dp::Planner;

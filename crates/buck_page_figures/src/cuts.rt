@@ -1,6 +1,6 @@
 //! A cut log by log, beside the best cutting of its stem at base prices.
 ghost use Rattle.std.specs.Prelude.{◌≡◌, ◌<◌, ◌≤◌, All, IfOk, length, map};
-ghost use Rattle.buck_apt.specs.Instruction.{classes};
+ghost use Rattle.buck_apt_instruction.specs.Instruction.{classes};
 ghost use Rattle.buck_value.specs.Allowed.{IsAllowed};
 ghost use Rattle.buck_value.specs.Volume.{worth_at};
 ghost use Rattle.buck_dp.specs.Best.{IsAdmissible, IsFirstBest};

@@ -1,11 +1,11 @@
 //! The degree of apportionment taken apart: of diameters and of lengths.
 ghost use Rattle.std.specs.Prelude.{◌≡◌, ◌*◌, ◌<◌, ◌≤◌, ◌^◌, IfSome, None, drop, get_or, length, sum, take};
-ghost use Rattle.buck_apt.specs.Instruction.{classes};
+ghost use Rattle.buck_apt_instruction.specs.Instruction.{classes};
 ghost use Rattle.buck_book_postings.specs.Degree.{degree_of, shared_of};
 ghost use Rattle.buck_page_figures.specs.Degrees.{AreDegreesBy, diameter_degree_of, length_degree_of};
 
 use crate::parts::{part, sum_of};
-use buck_apt::Instruction;
+use buck_apt_instruction::Instruction;
 
 /// The degrees of apportionment of an assortment, in ten-thousandths; none if nothing is wanted or nothing was cut.
 #[derive(Clone, Copy, Debug, PartialEq, Eq)]

@@ -1,13 +1,13 @@
 //! The figures of lawful journals.
 ghost use Rattle.std.specs.Prelude.{◌≡◌, ◌*◌, ◌<◌, ◌≤◌, ◌^◌, vec_len, length};
-ghost use Rattle.buck_apt.specs.Instruction.{classes};
+ghost use Rattle.buck_apt_instruction.specs.Instruction.{classes};
 ghost use Rattle.buck_page_figures.specs.Journals.{postings_of};
 ghost use Rattle.buck_book_postings.specs.declared.posting.TheConstants.{MOST_POSTINGS};
 
 use crate::degrees::Degrees;
 use crate::owns::Own;
 use crate::sums::Sums;
-use buck_apt::{Class, Instruction};
+use buck_apt_instruction::{Class, Instruction};
 use buck_book_journal::Journal;
 use buck_book_postings::Entry;
 use buck_dp::Cutting;

@@ -2,7 +2,7 @@
 ghost use Rattle.std.specs.Prelude.{◌≡◌, ◌≢◌, ℕ, ◌+◌, ◌*◌, ◌≤◌, ◌^◌, List, [], ◌∷◌, ◌++◌, IfOk, OnOk, None};
 ghost use Rattle.std.specs.Ordering.{nat_cmp};
 ghost use Rattle.std.specs.BTreeMap.{get};
-ghost use Rattle.buck_apt.specs.Grades.{grade_free};
+ghost use Rattle.buck_apt_instruction.specs.Grades.{grade_free};
 ghost use Rattle.buck_book_postings.specs.declared.posting.Posting.{Posting};
 ghost use Rattle.buck_page_figures.specs.Figures.{base_sheet};
 ghost use Rattle.buck_page_figures.specs.Journals.{postings_of};
@@ -12,7 +12,7 @@ ghost use Rattle.buck_book_postings.specs.declared.posting.TheConstants.{MOST_PO
 
 use crate::figures::Figures;
 use crate::free::{Free, GradeFree};
-use buck_apt::Instruction;
+use buck_apt_instruction::Instruction;
 use buck_book_journal::Journal;
 use buck_book_postings::Posting;
 use buck_dp::Planner;

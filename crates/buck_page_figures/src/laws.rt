@@ -1,7 +1,7 @@
 //! Laws of the figures of a journal.
 ghost use Rattle.std.specs.Prelude.{◌≡◌, ◌*◌, ◌≤◌, ℕ, List, All, Some, length, slice_get, sum_by};
-ghost use Rattle.buck_apt.specs.Instruction.{InstructionParts, IsInstruction};
-ghost use Rattle.buck_apt.specs.Grades.{grade_free};
+ghost use Rattle.buck_apt_instruction.specs.Instruction.{InstructionParts, IsInstruction};
+ghost use Rattle.buck_apt_instruction.specs.Grades.{grade_free};
 ghost use Rattle.buck_book_postings.specs.declared.posting.Posting.{Posting};
 ghost use Rattle.buck_book_postings.specs.History.{IsLawful};
 ghost use Rattle.buck_book_journal.specs.Journal.{JournalParts, history_of};

@@ -1,6 +1,6 @@
 //! The figures of lawful journals, made in one walk over their postings.
 ghost use Rattle.std.specs.Prelude.{◌≡◌, ◌+◌, ◌*◌, ◌<◌, ◌≤◌, All, IfOk, length, map, min};
-ghost use Rattle.buck_apt.specs.Instruction.{classes};
+ghost use Rattle.buck_apt_instruction.specs.Instruction.{classes};
 ghost use Rattle.buck_book_postings.specs.History.{IsLawful, prices_at};
 ghost use Rattle.buck_book_journal.specs.Journal.{history_of};
 ghost use Rattle.buck_page_figures.specs.Figures.{base_sheet};
@@ -14,7 +14,7 @@ ghost use Rattle.buck_book_postings.specs.declared.posting.TheConstants.{MOST_PO
 use crate::course::{Course, begin, go_on, pass_until};
 use crate::degrees::{Degrees, degrees_at};
 use crate::figures::{Figures, Point};
-use buck_apt::Instruction;
+use buck_apt_instruction::Instruction;
 use buck_book_journal::Journal;
 use buck_dp::Planner;
 use buck_record::Memory;

@@ -1,8 +1,8 @@
 //! Numbers of the classes of one assortment, out of those of all classes.
 ghost use Rattle.std.specs.Prelude.{◌≡◌, ◌*◌, ◌<◌, ◌≤◌, ◌^◌, Some, drop, length, slice_get, slice_index, sum, take};
-ghost use Rattle.buck_apt.specs.Instruction.{AssortmentParts, classes, classes_before, classes_of};
+ghost use Rattle.buck_apt_instruction.specs.Instruction.{AssortmentParts, classes, classes_before, classes_of};
 
-use buck_apt::{Class, Instruction};
+use buck_apt_instruction::{Class, Instruction};
 
 /// All of some numbers together.
 pub fn sum_of(numbers: &[u32]) -> u64

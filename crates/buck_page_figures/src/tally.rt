@@ -2,7 +2,7 @@
 ghost use Rattle.std.specs.Prelude.{◌≡◌, ◌+◌, ℕ, [], List, IfOk, OnOk, IfSome, length};
 ghost use Rattle.std.specs.Ordering.{nat_cmp};
 ghost use Rattle.std.specs.BTreeMap.{get};
-ghost use Rattle.buck_apt.specs.Instruction.{classes};
+ghost use Rattle.buck_apt_instruction.specs.Instruction.{classes};
 ghost use Rattle.buck_book_postings.specs.declared.posting.Posting.{Posting};
 ghost use Rattle.buck_page_figures.specs.Figures.{base_sheet};
 ghost use Rattle.buck_page_figures.specs.inner.Counted.{AreOfPosting};

@@ -2,7 +2,7 @@
 ghost use Rattle.std.specs.Prelude.{◌<◌, length};
 
 use crate::list::LIST_END;
-use buck_apt::Instruction;
+use buck_apt_instruction::Instruction;
 use buck_book_postings::{Demand, Posting};
 use buck_page_figures::{Figures, part, place_of, posting_at};
 use buck_page_text::{Chip, Grouped, Several};

@@ -1,6 +1,6 @@
 //! What stands under the drawing of a stem: labels, the cutting unsteered, grades and metres.
 use crate::drawing::Scale;
-use buck_apt::Instruction;
+use buck_apt_instruction::Instruction;
 use buck_page_figures::Piece;
 use buck_page_text::{Percent, length_text, letter, percent_at, tick_step};
 use buck_record::Memory;

@@ -2,7 +2,7 @@
 use Rattle.std.proofs.Common.{◌≡◌, ℕ, ◌/◌, ◌<◌, List, length, get_or, Some, slice_get, sym, ◌∙◌, subst}
 use Rattle.std.proofs.lemmas.Nat.{div_below}
 use Rattle.std.proofs.lemmas.Option.{get_or_from_slice_get}
-use Rattle.buck_apt.specs.Instruction.{AssortmentParts, IsAssortment, classes_of}
+use Rattle.buck_apt_instruction.specs.Instruction.{AssortmentParts, IsAssortment, classes_of}
 
 -- it is one of the assortment that was read
 pub class_there : (xs ys : List AssortmentParts) (at class : ℕ) (a read : AssortmentParts) → ys ≡ xs

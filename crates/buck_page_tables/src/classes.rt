@@ -1,10 +1,10 @@
 //! The table of classes, and that of assortments.
 ghost use Rattle.std.specs.Prelude.{◌≡◌, ◌<◌, length};
-ghost use Rattle.buck_apt.specs.Instruction.{classes_of};
+ghost use Rattle.buck_apt_instruction.specs.Instruction.{classes_of};
 ghost use Rattle.buck_page_figures.specs.Shown.{IsShown};
 
 use crate::put::{Field, put, put_name};
-use buck_apt::Assortment;
+use buck_apt_instruction::Assortment;
 use buck_dp::Planner;
 use buck_page_figures::{
     Figures, Part, Piece, Place, cut_at, degrees_at, number_at, part, unsteered_pieces,

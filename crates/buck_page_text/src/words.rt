@@ -2,10 +2,10 @@
 //!
 //! All arithmetic is in integers: a number is rounded once, when it is printed, a half upwards.
 ghost use Rattle.std.specs.Prelude.{◌≡◌, ◌↔◌, IsTrue, ◌+◌, ◌-◌, ◌*◌, ◌/◌, ◌%◌, ◌<◌, ◌≤◌, ◌^◌, true, false, length};
-ghost use Rattle.buck_apt.specs.Instruction.{classes_of};
+ghost use Rattle.buck_apt_instruction.specs.Instruction.{classes_of};
 ghost use Rattle.buck_page_text.specs.Words.{half_up, permille};
 
-use buck_apt::Assortment;
+use buck_apt_instruction::Assortment;
 use std::fmt;
 
 /// Returns `n / d` to the nearest integer, a half upwards.

@@ -8,8 +8,8 @@ use Rattle.std.proofs.lemmas.List.Quantifiers.{position-Some}
 use Rattle.std.proofs.lemmas.List.Elements.{All-get_or, All-contains}
 use Rattle.std.proofs.lemmas.List.Sums.{fails_before_first}
 use Rattle.buck_record.proofs.TableLemmas.{place-none}
-use Rattle.buck_apt.specs.Instruction.{InstructionParts, AssortmentParts, IsAssortment, IsInstruction, IsClass, IsOnModule}
-use Rattle.buck_apt.specs.declared.class.Class.{Class}
+use Rattle.buck_apt_instruction.specs.Instruction.{InstructionParts, AssortmentParts, IsAssortment, IsInstruction, IsClass, IsOnModule}
+use Rattle.buck_apt_instruction.specs.declared.class.Class.{Class}
 use Rattle.buck_stem.specs.Stem.{StemParts}
 use Rattle.buck_value.specs.declared.log.Log.{Log}
 use Rattle.buck_value.specs.Sheet.{SheetParts, price_of}

@@ -3,7 +3,7 @@ use Rattle.std.proofs.Common.{◌≡◌, ℕ, zero, suc, ◌+◌, ◌<◌, ◌�
 use native.Mathlib.Numerals.{unary_clauses}
 use Rattle.std.proofs.lemmas.Bool.{cases_lt}
 use Rattle.std.proofs.lemmas.Bool.Decides.{nat_tests}
-use Rattle.buck_apt.specs.Instruction.{AssortmentParts, IsAssortment}
+use Rattle.buck_apt_instruction.specs.Instruction.{AssortmentParts, IsAssortment}
 use Rattle.std.specs.Option.{option_map, option_or}
 use Rattle.buck_value.specs.Allowed.{last_position, row_at, IsRow}
 

@@ -1,7 +1,7 @@
 -- What stands at a place of a list.
 use Rattle.std.proofs.Common.{◌≡◌, ℕ, ◌<◌, List, length, slice_get, get_or, Some, refl, ◌∙◌, ap}
 use Rattle.std.proofs.lemmas.Option.{slice_get_read}
-use Rattle.buck_apt.specs.Instruction.{AssortmentParts, InstructionParts}
+use Rattle.buck_apt_instruction.specs.Instruction.{AssortmentParts, InstructionParts}
 
 -- the assortment at a place, as the code reads it
 pub stands : (i : InstructionParts) (a : ℕ) (x : AssortmentParts) (all : List AssortmentParts)

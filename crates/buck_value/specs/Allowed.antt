@@ -1,8 +1,8 @@
 -- Which logs of a stem an instruction allows, their class, and what each is worth.
 use Rattle.std.specs.Prelude.{◌≡◌, ◌≢◌, ℕ, ◌+◌, ◌*◌, ◌%◌, ◌<◌, ◌≤◌, Bool, List, [], ◌∷◌, length, Contains, slice_get, slice_index, Option, Some, None, nat_le, position, ◌==◌, unwrap_or, if◌then◌else◌}
 use Rattle.std.specs.Option.{option_map, option_or}
-use Rattle.buck_apt.specs.declared.class.Class.{Class}
-use Rattle.buck_apt.specs.Instruction.{InstructionParts, AssortmentParts}
+use Rattle.buck_apt_instruction.specs.declared.class.Class.{Class}
+use Rattle.buck_apt_instruction.specs.Instruction.{InstructionParts, AssortmentParts}
 use Rattle.buck_stem.specs.Stem.{StemParts, stem_length, diameter_at, HasGradesOf}
 use Rattle.buck_value.specs.declared.log.Log.{Log}
 use Rattle.buck_value.specs.Sheet.{SheetParts, price_of}

@@ -1,8 +1,8 @@
 -- A price sheet as clauses see it.
 use Rattle.std.specs.Prelude.{◌≡◌, ◌≢◌, ℕ, ◌+◌, ◌-◌, ◌*◌, ◌/◌, ◌<◌, ◌≤◌, List, length, slice_index, EachIndex}
 use Rattle.std.specs.List.{flat_map}
-use Rattle.buck_apt.specs.declared.class.Class.{Class}
-use Rattle.buck_apt.specs.Instruction.{InstructionParts, IsInstruction, classes, index_of}
+use Rattle.buck_apt_instruction.specs.declared.class.Class.{Class}
+use Rattle.buck_apt_instruction.specs.Instruction.{InstructionParts, IsInstruction, classes, index_of}
 use Rattle.buck_value.specs.declared.fault.SheetFault.{SheetFault}
 use Rattle.buck_value.specs.declared.fault.SheetFault.TheVariants.{Count, Price}
 

@@ -1,7 +1,7 @@
 -- Logs as if no assortment had a trim allowance, for the law that nothing else changes if each trim is 0. No other
 -- contract leads here.
 use Rattle.std.specs.Prelude.{◌≡◌, ℕ, ◌%◌, ◌≤◌, All, Contains, slice_get, Some}
-use Rattle.buck_apt.specs.Instruction.{InstructionParts, AssortmentParts}
+use Rattle.buck_apt_instruction.specs.Instruction.{InstructionParts, AssortmentParts}
 use Rattle.buck_stem.specs.Stem.{StemParts, stem_length, HasGradesOf}
 use Rattle.buck_value.specs.declared.log.Log.{Log}
 use Rattle.buck_value.specs.Allowed.{IsBought, column_of, top_of, top_diameter}

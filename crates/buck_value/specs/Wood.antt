@@ -1,7 +1,7 @@
 -- Wood, and who takes it.
 use Rattle.std.specs.Prelude.{◌≡◌, ℕ, ◌-◌, ◌≤◌, List, Contains}
 use Rattle.std.specs.Int.{bit_at}
-use Rattle.buck_apt.specs.Instruction.{AssortmentParts}
+use Rattle.buck_apt_instruction.specs.Instruction.{AssortmentParts}
 
 -- each grade of a mask is one of these
 abbrev pub AllIn : ℕ → List ℕ → Type 0

@@ -1,6 +1,6 @@
 //! What follows from the definitions, for all sheets, stems and logs: each law is the contract of an empty function.
 ghost use Rattle.std.specs.Prelude.{ℕ, ◌*◌, ◌≤◌, ◌↔◌, All, slice_index};
-ghost use Rattle.buck_apt.specs.Instruction.{InstructionParts, AssortmentParts, IsInstruction, IsAssortment, IsClass};
+ghost use Rattle.buck_apt_instruction.specs.Instruction.{InstructionParts, AssortmentParts, IsInstruction, IsAssortment, IsClass};
 ghost use Rattle.buck_stem.specs.Stem.{StemParts};
 ghost use Rattle.buck_value.specs.declared.log.Log.{Log};
 ghost use Rattle.buck_value.specs.Sheet.{SheetParts, IsSheet};

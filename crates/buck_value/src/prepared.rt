@@ -8,7 +8,7 @@ ghost use Rattle.buck_value.specs.Prepared.{points_of, lengths_of, log_at};
 use crate::log::Log;
 use crate::sheet::Sheet;
 use crate::worth::{measure, worth_in_class};
-use buck_apt::Class;
+use buck_apt_instruction::Class;
 use buck_record::Memory;
 use buck_stem::{Profile, Stem};
 use std::alloc::Global;

@@ -1,10 +1,10 @@
 //! Price sheets.
 ghost use Rattle.std.specs.Prelude.{◌≡◌, ◌≤◌, ◌↔◌, IsTrue, IfOk, IfErr, IfSome, IfNone, OnOk, length, EachIndex};
-ghost use Rattle.buck_apt.specs.Instruction.{IsInstruction, IsClass, classes};
+ghost use Rattle.buck_apt_instruction.specs.Instruction.{IsInstruction, IsClass, classes};
 ghost use Rattle.buck_value.specs.Sheet.{IsSheet, IsInSpan, IsPriceAt, IsSheetFault, base_prices, sheet_of, price_of};
 
 use crate::fault::SheetFault;
-use buck_apt::{Assortment, Class, Instruction};
+use buck_apt_instruction::{Assortment, Class, Instruction};
 use buck_record::Memory;
 use std::alloc::{AllocError, Global};
 use std::marker::Model;

@@ -2,7 +2,7 @@
 ghost use Rattle.std.specs.Prelude.{◌↔◌, IsTrue};
 ghost use Rattle.buck_value.specs.Wood.{AllIn, TakesWood};
 
-use buck_apt::Assortment;
+use buck_apt_instruction::Assortment;
 use buck_stem::Grades;
 
 /// Whether each of some grades is one of these.

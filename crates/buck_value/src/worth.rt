@@ -6,7 +6,7 @@
 //! the upper diameter, and the base price of its class isn't 0. Its row is the last whose lower limit is at most its
 //! top diameter, its column the place of its length.
 ghost use Rattle.std.specs.Prelude.{◌≡◌, ◌*◌, ◌<◌, ◌≤◌, ◌%◌, ◌==◌, Some, IfSome, IfNone, slice_get, length, position};
-ghost use Rattle.buck_apt.specs.Instruction.{IsAssortment, IsClass, IsOnModule};
+ghost use Rattle.buck_apt_instruction.specs.Instruction.{IsAssortment, IsClass, IsOnModule};
 ghost use Rattle.buck_stem.specs.Stem.{IsStem, stem_length, diameter_at};
 ghost use Rattle.buck_stem.specs.points.Profile.{IsMask, profile_of};
 ghost use Rattle.buck_value.specs.Sheet.{IsSheet, price_of};
@@ -17,7 +17,7 @@ ghost use Rattle.buck_value.specs.declared.sheet.TheConstants.{HIGHEST_PRICE};
 use crate::log::Log;
 use crate::sheet::Sheet;
 use crate::wood::takes;
-use buck_apt::{Assortment, Class};
+use buck_apt_instruction::{Assortment, Class};
 use buck_stem::{Grades, Profile, Stem};
 
 /// The volume in cm³ of a cylinder, rounded down, from its diameter and its length in mm. A quarter of pi is 0.7854.

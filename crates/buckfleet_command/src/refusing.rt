@@ -1,5 +1,5 @@
 //! Why a request is refused, in words.
-use buck_apt::Instruction;
+use buck_apt_instruction::Instruction;
 use buckfleet_engine_files::EngineFault;
 use buckfleet_live::{Asked, read_request};
 use buckfleet_reason::{Said, Source, request_reason};

@@ -1,6 +1,6 @@
 //! What is said in words of a run beside what it prints: on the errors if that is asked for, else on the screen.
 use crate::refusing::refusal;
-use buck_apt::Instruction;
+use buck_apt_instruction::Instruction;
 use buckfleet_command_remarks::Screen;
 use buckfleet_command_streams::Shared;
 use buckfleet_engine_files::EngineFault;

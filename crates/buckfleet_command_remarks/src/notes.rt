@@ -1,6 +1,6 @@
 //! Warnings after a successful run: nothing went wrong, but a mistake is likely.
 use crate::reason::Inquest;
-use buck_apt::Instruction;
+use buck_apt_instruction::Instruction;
 use buck_record::Memory;
 use buckfleet_command_streams::Known;
 use buckfleet_engine_files::HasStem;

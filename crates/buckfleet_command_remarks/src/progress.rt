@@ -4,7 +4,7 @@ ghost use Rattle.std.specs.Prelude.{◌≡◌};
 ghost use Rattle.std.specs.Option.{option_map};
 
 use crate::notes::input_notes;
-use buck_apt::Instruction;
+use buck_apt_instruction::Instruction;
 use buck_record::Memory;
 use buckfleet_command_streams::Kept;
 use buckfleet_engine_files::{HasStem, Make, Onlooker, Open, RunOnlooker};

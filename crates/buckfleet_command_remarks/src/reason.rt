@@ -1,5 +1,6 @@
 //! Why a run failed, in words, from its fault and from what was read.
-use buck_apt::{AptFault, Instruction, Settings, read_apt};
+use buck_apt::{AptFault, read_apt};
+use buck_apt_instruction::{Instruction, Settings};
 use buck_book_journal::{Journal, JournalFault, ReplayFault};
 use buck_book_text::read_journal;
 use buck_record::Memory;

@@ -2,7 +2,7 @@
 ghost use Rattle.std.specs.Prelude.{◌≡◌, ◌<◌, ◌≤◌, IfOk, IfSome, vec_len};
 ghost use Rattle.buckfleet_command_words.specs.Words.{table_name};
 
-use buck_apt::Settings;
+use buck_apt_instruction::Settings;
 use buck_page_cells::Table;
 use buck_record::Memory;
 use buck_rule::NamedRule;

@@ -4,7 +4,7 @@
 mod fleet;
 mod run;
 
-pub use buck_apt::Settings;
+pub use buck_apt_instruction::Settings;
 pub use buckfleet_engine_files::{EngineFault, status, write_fault};
 pub use buckfleet_engine_input::{Input, read_input};
 pub use buckfleet_engine_text::{TextFault, buck_text};

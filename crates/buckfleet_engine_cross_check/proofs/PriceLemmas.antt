@@ -3,7 +3,7 @@ use Rattle.std.proofs.Common.{◌≡◌, ℕ, ◌+◌, ◌<◌, ◌≤◌, inl, 
 use Rattle.std.specs.Prelude.{Option, Some, None, slice_get}
 use Rattle.std.proofs.lemmas.Bool.{cases_lt}
 use Rattle.std.proofs.lemmas.Option.{slice_get_cases, slice_get_within, none-some}
-use Rattle.buck_apt.specs.Instruction.{InstructionParts, classes, index_of}
+use Rattle.buck_apt_instruction.specs.Instruction.{InstructionParts, classes, index_of}
 use Rattle.buck_rule.specs.GivenBy.{GivesBy}
 use Rattle.buck_rule.specs.declared.named.NamedRule.{NamedRule}
 use Rattle.buck_book_postings.specs.History.{HistoryParts, IsLawful, Holds}

@@ -1,6 +1,6 @@
 -- What a check answers that ties a journal to stem files and to a price rule.
 use Rattle.std.specs.Prelude.{◌≡◌, ◌⊎◌, ℕ, ◌+◌, ◌<◌, ◌≤◌, List, [], length, Option, None, Result, Ok, Err, slice_index_or}
-use Rattle.buck_apt.specs.Instruction.{InstructionParts}
+use Rattle.buck_apt_instruction.specs.Instruction.{InstructionParts}
 use Rattle.buck_apt.specs.Apt.{apt_of}
 use Rattle.buck_stem.specs.Stem.{StemParts}
 use Rattle.buck_stem.specs.file.Stm.{stm_of}

@@ -1,6 +1,6 @@
 //! Whether the prices of a lawful journal are those of a rule.
 ghost use Rattle.std.specs.Prelude.{◌≡◌, ◌+◌, ◌≤◌, IfOk, IfSome, IfNone, length, slice_get, Some};
-ghost use Rattle.buck_apt.specs.Instruction.{classes};
+ghost use Rattle.buck_apt_instruction.specs.Instruction.{classes};
 ghost use Rattle.buck_rule.specs.Stored.{Answers};
 ghost use Rattle.buck_rule.specs.GivenBy.{GivesBy};
 ghost use Rattle.buck_book_postings.specs.History.{IsLawful};
@@ -10,7 +10,7 @@ ghost use Rattle.buckfleet_engine_cross_check.specs.Ties.{IsPriceFault, IsPriceF
 ghost use Rattle.buckfleet_engine_cross_check.specs.inner.Tie.{AreSameBelow, DifferFirstAt};
 ghost use Rattle.buck_book_postings.specs.declared.posting.TheConstants.{MOST_POSTINGS};
 
-use buck_apt::Instruction;
+use buck_apt_instruction::Instruction;
 use buck_book_journal::Journal;
 use buck_book_postings::Walk;
 use buck_record::Memory;

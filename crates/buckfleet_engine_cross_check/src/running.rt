@@ -17,7 +17,7 @@ ghost use Rattle.buck_book_postings.specs.declared.posting.TheConstants.{MOST_PO
 use crate::comparing::compare_stems;
 use crate::lists::read_files;
 use crate::prices::compare_prices;
-use buck_apt::{Instruction, Settings};
+use buck_apt_instruction::{Instruction, Settings};
 use buck_book_journal::{Journal, ReplayFault};
 use buck_record::Memory;
 use buck_rule::NamedRule;

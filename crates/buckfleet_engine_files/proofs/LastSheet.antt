@@ -2,7 +2,7 @@
 use Rattle.std.proofs.Common.{◌≡◌, ℕ, zero, suc, ◌+◌, ◌≤◌, inl, inr, ◌∷◌, [], ◌++◌, List, length, take, take_all, sym, ap, subst, ◌∙◌, arith}
 use Rattle.std.proofs.lemmas.Bool.{cases_Bool}
 use Rattle.std.proofs.lemmas.Option.{slice_get_cases}
-use Rattle.buck_apt.specs.Instruction.{IsInstruction, classes}
+use Rattle.buck_apt_instruction.specs.Instruction.{IsInstruction, classes}
 use Rattle.buck_value.proofs.Prices.{length-base_prices}
 use Rattle.buck_book_postings.specs.Posting.{ends_of, is_end, cuts_since_end}
 use Rattle.buck_book_postings.specs.History.{HistoryParts, IsLawful, prices_at, in_force}

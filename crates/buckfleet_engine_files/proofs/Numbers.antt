@@ -3,8 +3,8 @@ use Rattle.std.proofs.Common.{◌≡◌, List, ℕ, Option, Some, None, Result, 
 use Rattle.std.proofs.Math.Path.{fun_ext}
 use Rattle.buck_record.specs.checking.Check.{◌>>=◌}
 use Rattle.buck_apt.specs.declared.fault.AptFault.{AptFault}
-use Rattle.buck_apt.specs.Instruction.{InstructionParts}
-use Rattle.buck_apt.specs.Settings.{SettingsParts, own_numbers, with_settings}
+use Rattle.buck_apt_instruction.specs.Instruction.{InstructionParts}
+use Rattle.buck_apt_instruction.specs.Settings.{SettingsParts, own_numbers, with_settings}
 use Rattle.buck_apt.specs.Apt.{apt_of}
 use Rattle.buckfleet_engine_files.specs.Reading.{Says, apt_with}
 

@@ -1,13 +1,13 @@
 -- What is read of a file's bytes.
 use Rattle.std.specs.Prelude.{◌≡◌, ◌⊎◌, List, ℕ, Result, Ok, Err, ◌≤◌, length, Option, IfSome}
 use Rattle.buck_record.specs.checking.Check.{◌>>=◌}
-use Rattle.buck_apt.specs.Instruction.{InstructionParts}
+use Rattle.buck_apt_instruction.specs.Instruction.{InstructionParts}
 use Rattle.buck_apt.specs.Apt.{apt_of}
 use Rattle.buck_stem.specs.file.Stm.{stm_of}
 use Rattle.buckfleet_engine_files.specs.declared.fault.EngineFault.{EngineFault}
 use Rattle.buckfleet_engine_files.specs.declared.fault.EngineFault.TheVariants.{Apt, Stm, Memory, Read, Journal, Seats}
 use Rattle.buck_apt.specs.declared.fault.AptFault.{AptFault}
-use Rattle.buck_apt.specs.Settings.{SettingsParts, with_settings}
+use Rattle.buck_apt_instruction.specs.Settings.{SettingsParts, with_settings}
 
 -- the bytes are refused, which is named so, or memory ran out
 abbrev pub AreRefused : {V F : Type 0} → (F → EngineFault) → (List ℕ → Result V F) → List ℕ → EngineFault → Type 0

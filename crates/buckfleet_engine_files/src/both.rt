@@ -14,7 +14,7 @@ ghost use Rattle.buck_book_postings.specs.declared.posting.TheConstants.{MOST_PO
 use crate::fault::EngineFault;
 use crate::reading::{read_file, read_instruction};
 use crate::workers::{OneThread, Workers};
-use buck_apt::Instruction;
+use buck_apt_instruction::Instruction;
 use buck_book_journal::{Journal, JournalFault, ReplayFault};
 use buck_book_replay::replay;
 use buck_record::{Memory, put_line};

@@ -1,5 +1,5 @@
 //! Who looks on at a run.
-use buck_apt::Instruction;
+use buck_apt_instruction::Instruction;
 use buck_stem::Stem;
 use std::sync::Arc;
 

@@ -8,7 +8,8 @@ ghost use Rattle.buckfleet_engine_files.specs.Reading.{AreRefused};
 
 use crate::fault::EngineFault;
 use crate::workers::Workers;
-use buck_apt::{AptFault, Instruction, Settings, read_apt};
+use buck_apt::{AptFault, read_apt};
+use buck_apt_instruction::{Instruction, Settings};
 use buck_stem::{Stem, StmFault};
 use std::alloc::Global;
 use std::io;

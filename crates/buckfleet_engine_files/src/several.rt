@@ -10,7 +10,7 @@ ghost use Rattle.buck_book_postings.specs.declared.posting.TheConstants.{MOST_PO
 use crate::fault::EngineFault;
 use crate::reading::{read_file, read_instruction_with};
 use crate::workers::Workers;
-use buck_apt::{Instruction, Settings};
+use buck_apt_instruction::{Instruction, Settings};
 use buck_book_journal::{Journal, JournalFault, ReplayFault};
 use buck_book_postings::MOST_POSTINGS;
 use std::alloc::Global;

@@ -10,7 +10,7 @@ ghost use Rattle.buck_book_replay.specs.Replay.{IsFirstFault};
 ghost use Rattle.buck_book_text.specs.reading.Journal.{journal_of};
 
 use crate::onlooker::Onlooker;
-use buck_apt::Instruction;
+use buck_apt_instruction::Instruction;
 use buck_book_journal::{Journal, JournalFault, ReplayFault};
 use buck_book_replay::{replay, replay_in_parts};
 use buck_book_text::{read_journal, read_journal_in_parts};

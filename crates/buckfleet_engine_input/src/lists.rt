@@ -8,7 +8,7 @@ ghost use Rattle.buckfleet_engine_files.specs.declared.fault.EngineFault.TheVari
 ghost use Rattle.buckfleet_engine_files.specs.Reading.{IfStopped, IsAccepted, IsStmFault, Says, apt_with};
 ghost use Rattle.buckfleet_engine_input.specs.Harvest.{AreListsOf, AreNoSeats, IsFleetFault, IsListFault};
 
-use buck_apt::{Instruction, Settings};
+use buck_apt_instruction::{Instruction, Settings};
 use buck_stem::Stem;
 use buckfleet_engine_files::{EngineFault, Workers, read_instruction, read_stems};
 use std::alloc::Global;

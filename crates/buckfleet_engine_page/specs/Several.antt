@@ -1,7 +1,7 @@
 -- What is shown of several journals.
 use Rattle.std.specs.Prelude.{◌≡◌, ◌≢◌, ◌⊎◌, ◌+◌, ℕ, List, length, Option, Result, Ok, Err}
 use Rattle.std.specs.Io.KnownBytes.{Keeps}
-use Rattle.buck_apt.specs.Instruction.{InstructionParts}
+use Rattle.buck_apt_instruction.specs.Instruction.{InstructionParts}
 use Rattle.buck_book_journal.specs.Journal.{JournalParts}
 use Rattle.buck_book_journal.specs.declared.replay_fault.ReplayFault.{ReplayFault}
 use Rattle.buckfleet_engine_files.specs.declared.fault.EngineFault.{EngineFault}

@@ -2,7 +2,7 @@
 use Rattle.std.specs.Prelude.{◌⊎◌, ℕ, List, Option, Result, Ok, Err}
 use Rattle.std.specs.Io.KnownBytes.{Appends, Keeps}
 use Rattle.std.specs.Str.{IsUtf8}
-use Rattle.buck_apt.specs.Instruction.{InstructionParts}
+use Rattle.buck_apt_instruction.specs.Instruction.{InstructionParts}
 use Rattle.buck_book_postings.specs.History.{HistoryParts, IsLawful}
 use Rattle.buck_book_journal.specs.Journal.{JournalParts, history_of}
 use Rattle.buck_book_text.specs.reading.Journal.{journal_of}

@@ -4,7 +4,7 @@
 mod showing;
 mod viewing;
 
-pub use buck_apt::Settings;
+pub use buck_apt_instruction::Settings;
 pub use buck_page::Files;
 pub use buck_page_tables::Table;
 pub use buckfleet_tasks::{Shown, ViewTask};

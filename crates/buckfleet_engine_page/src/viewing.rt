@@ -13,7 +13,7 @@ ghost use Rattle.buckfleet_engine_page.specs.Viewing.{AppendsPage, AppendsTable,
 ghost use Rattle.buckfleet_engine_page.specs.inner.View.{ShowsFault, ShowsHistory, WritesAs};
 ghost use Rattle.buck_book_postings.specs.declared.posting.TheConstants.{MOST_POSTINGS};
 
-use buck_apt::Instruction;
+use buck_apt_instruction::Instruction;
 use buck_book_journal::{Journal, ReplayFault};
 use buck_dp::Planner;
 use buck_page::{Files, fault_page, page};

@@ -3,7 +3,7 @@ use Rattle.std.proofs.Common.{◌≡◌, ℕ, zero, suc, ◌+◌, ◌<◌, List,
 use Rattle.std.proofs.Math.Seq.{take-suc}
 use Rattle.std.specs.List.{flat_map, range_with_len}
 use Rattle.std.proofs.lemmas.List.{flat_map_more}
-use Rattle.buck_apt.specs.Instruction.{AssortmentParts}
+use Rattle.buck_apt_instruction.specs.Instruction.{AssortmentParts}
 use Rattle.buck_book_postings.specs.declared.posting.Posting.{Posting}
 use Rattle.buckfleet_engine_text.specs.Report.{EndingParts, posting_line, posting_lines, assortment_lines, all_lines}
 

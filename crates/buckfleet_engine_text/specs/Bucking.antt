@@ -1,7 +1,7 @@
 -- The text of a bucking: what is cut from each stem, and the total.
 use Rattle.std.specs.Prelude.{◌≡◌, ℕ, List, [], ◌∷◌, ◌++◌, length, map, sum_by, All, slice_get, Option, Some, None, codes}
 use Rattle.std.specs.List.{flat_map}
-use Rattle.buck_apt.specs.Instruction.{InstructionParts, AssortmentParts}
+use Rattle.buck_apt_instruction.specs.Instruction.{InstructionParts, AssortmentParts}
 use Rattle.buck_stem.specs.Stem.{StemParts, stem_length}
 use Rattle.buck_value.specs.declared.log.Log.{Log}
 use Rattle.buck_value.specs.Sheet.{SheetParts, sheet_of, base_prices}

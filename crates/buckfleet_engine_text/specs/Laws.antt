@@ -1,6 +1,6 @@
 -- Laws of the definitions.
 use Rattle.std.specs.Prelude.{◌≡◌, ℕ, List}
-use Rattle.buck_apt.specs.Instruction.{InstructionParts}
+use Rattle.buck_apt_instruction.specs.Instruction.{InstructionParts}
 use Rattle.buck_stem.specs.Stem.{StemParts}
 use Rattle.buckfleet_engine_text.specs.Bucking.{IsBuckText}
 

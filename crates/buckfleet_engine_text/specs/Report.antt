@@ -1,8 +1,8 @@
 -- The report of a closed fleet: what was cut and demanded, how each class stands at the end, and the totals.
 use Rattle.std.specs.Prelude.{◌≡◌, ℕ, ◌+◌, ◌*◌, List, [], ◌∷◌, ◌++◌, length, sum_by, Option, Some, None, slice_index, codes}
 use Rattle.std.specs.List.{flat_map, range_with_len}
-use Rattle.buck_apt.specs.declared.class.Class.{Class}
-use Rattle.buck_apt.specs.Instruction.{InstructionParts, AssortmentParts, index_of}
+use Rattle.buck_apt_instruction.specs.declared.class.Class.{Class}
+use Rattle.buck_apt_instruction.specs.Instruction.{InstructionParts, AssortmentParts, index_of}
 use Rattle.buck_record.specs.writing.Line.{line_of}
 use Rattle.buck_record.specs.writing.Written.{spelled}
 use Rattle.buck_book_postings.specs.declared.posting.Posting.{Posting}

@@ -9,7 +9,7 @@ ghost use Rattle.buckfleet_engine_text.specs.Text.{joined};
 ghost use Rattle.buckfleet_engine_text.specs.Bucking.{IsBuckText, IsTextUnder, base_sheet, log_line, named_line_of, stem_line, total_line};
 
 use crate::fault::TextFault;
-use buck_apt::Instruction;
+use buck_apt_instruction::Instruction;
 use buck_dp::Planner;
 use buck_record::{Memory, put_line, put_number, put_numbers};
 use buck_stem::Stem;

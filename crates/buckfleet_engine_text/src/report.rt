@@ -5,7 +5,7 @@ ghost use Rattle.buckfleet_engine_text.specs.inner.Report.{IsClassIn};
 
 use crate::bucking::{put_named_line, put_total};
 use crate::fault::TextFault;
-use buck_apt::{Assortment, Class, Instruction};
+use buck_apt_instruction::{Assortment, Class, Instruction};
 use buck_book_postings::{Parts, Posting, degree_at};
 use buck_record::{Memory, put_line, put_numbers};
 use std::alloc::Global;

@@ -15,7 +15,7 @@ pub(crate) fn item_of(file: &str, number: u16, kind: u16) -> Option<&'static Des
     let (own, more): (&'static [Described], &'static [Described]) = if file == "stm" {
         (&buck_stem::ITEMS, &REQUEST)
     } else {
-        (&buck_apt::ITEMS, &[])
+        (&buck_apt_instruction::ITEMS, &[])
     };
     for item in own.iter().chain(more) {
         let key = key_of(item);

@@ -23,7 +23,7 @@ use Rattle.buck_record.specs.checking.Table.{count_in, first_missing, first_twic
 use Rattle.buck_record.specs.checking.Check.{◌>>=◌, check, none_of}
 use Rattle.buck_record.specs.checking.Rules.{of_slot, has_no_strays, numbers_in, all_within, all_in_range}
 use Rattle.buck_record.specs.writing.Written.{spelled}
-use Rattle.buck_apt.specs.declared.slots.TheConstants.{LENGTHS}
+use Rattle.buck_apt_instruction.specs.declared.slots.TheConstants.{LENGTHS}
 use Rattle.buck_stem.specs.declared.file.slots.TheConstants.{STEM, STARTS, NEEDED}
 use Rattle.buck_stem.specs.declared.file.fault.StmFault.{StmFault}
 use Rattle.buck_stem.specs.declared.file.fault.StmFault.TheVariants.{Head, Missing, Twice, Digits, Range, Order, Count}

@@ -4,8 +4,8 @@ use Rattle.std.specs.Option.{option_map}
 use Rattle.std.specs.Result.{result_and}
 use Rattle.std.specs.Io.KnownBytes.{Appends, Keeps}
 use Rattle.buck_apt.specs.Apt.{apt_of}
-use Rattle.buck_apt.specs.Instruction.{InstructionParts}
-use Rattle.buck_apt.specs.Settings.{with_settings}
+use Rattle.buck_apt_instruction.specs.Instruction.{InstructionParts}
+use Rattle.buck_apt_instruction.specs.Settings.{with_settings}
 use Rattle.buck_book_postings.specs.History.{HistoryParts, IsLawful}
 use Rattle.buck_book_text.specs.Written.{journal_text}
 use Rattle.buckfleet_engine_files.specs.declared.fault.EngineFault.{EngineFault}

@@ -12,7 +12,7 @@ mod request;
 mod serving;
 mod slots;
 
-pub use buck_apt::Settings;
+pub use buck_apt_instruction::Settings;
 pub use buckfleet_tasks::LiveTask;
 pub use live::Live;
 pub use replies::Replies;

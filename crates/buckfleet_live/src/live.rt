@@ -12,7 +12,7 @@ ghost use Rattle.buckfleet_live.specs.inner.Running.{IsSaid};
 use crate::answering::answer;
 use crate::lines::{LONGEST, read_bytes};
 use crate::replies::Replies;
-use buck_apt::Instruction;
+use buck_apt_instruction::Instruction;
 use buck_book_cutter::Cutter;
 use buck_book_postings::MOST_POSTINGS;
 use buck_record::Memory;

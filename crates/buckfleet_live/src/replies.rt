@@ -1,7 +1,7 @@
 //! The writer of answers.
 ghost use Rattle.std.specs.Prelude.{◌≡◌};
 
-use buck_apt::Instruction;
+use buck_apt_instruction::Instruction;
 use buckfleet_engine_files::EngineFault;
 use std::io;
 

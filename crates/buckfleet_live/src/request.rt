@@ -26,7 +26,7 @@ ghost use Rattle.buckfleet_live.specs.Request.{
 use crate::slots::{
     AFTER_STEM, HARVESTER, HIGHEST_ASSORTMENT, MOST_OWN, OWN, PREVIEW, STEM_ITEMS, TABLE, TARGETS,
 };
-use buck_apt::slots::LENGTHS;
+use buck_apt_instruction::slots::LENGTHS;
 use buck_record::check::{all_absent, all_single, all_there, check, is_there};
 use buck_record::rules::{all_in_range, all_within, numbers_in};
 use buck_record::table::front;

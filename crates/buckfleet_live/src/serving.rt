@@ -9,7 +9,7 @@ ghost use Rattle.buckfleet_live.specs.Serving.{AnswersLive, KeepsJournal, RunsLi
 
 use crate::live::Live;
 use crate::replies::Replies;
-use buck_apt::Instruction;
+use buck_apt_instruction::Instruction;
 use buck_rule::{Rule, Standing};
 use buck_stem::Stem;
 use buckfleet_engine_files::{

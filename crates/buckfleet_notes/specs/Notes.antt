@@ -2,7 +2,7 @@
 use Rattle.std.specs.Prelude.{◌≡◌, ◌<◌, ℕ, Bool, true, false, ◌&&◌, ◌==◌, not, nat_le, nat_lt, List, take, slice_get, slice_index, Option, Some, None}
 use Rattle.std.specs.List.{list_any}
 use Rattle.std.specs.Str.{bytes_eq}
-use Rattle.buck_apt.specs.Instruction.{AssortmentParts, InstructionParts}
+use Rattle.buck_apt_instruction.specs.Instruction.{AssortmentParts, InstructionParts}
 
 -- the first place below a count at which something is so, or that there is none
 abbrev pub IsFirstOf : (ℕ → Bool) → ℕ → Option ℕ → Type 0

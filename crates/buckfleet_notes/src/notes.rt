@@ -2,7 +2,7 @@
 ghost use Rattle.std.specs.Prelude.{◌≡◌, IfOk, length};
 ghost use Rattle.buckfleet_notes.specs.Notes.{IsFirstOf, has_name, has_species, is_again, is_namesake, is_too_long, is_unsteered, is_untaken};
 
-use buck_apt::{Assortment, Instruction};
+use buck_apt_instruction::{Assortment, Instruction};
 use buck_record::Memory;
 use std::alloc::Global;
 use std::collections::BTreeSet;

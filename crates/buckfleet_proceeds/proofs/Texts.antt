@@ -1,7 +1,7 @@
 -- The lines of assortments, one after the other.
 use Rattle.std.proofs.Common.{◌≡◌, ◌∙◌, ℕ, ◌+◌, ◌<◌, ◌≤◌, List, [], ◌∷◌, ◌++◌, ap, drop, get_or, length, sym}
 use Rattle.std.proofs.lemmas.List.{drop_all, drop_more}
-use Rattle.buck_apt.specs.Instruction.{AssortmentParts}
+use Rattle.buck_apt_instruction.specs.Instruction.{AssortmentParts}
 use Rattle.buckfleet_proceeds.specs.declared.paid.Paid.{Paid}
 use Rattle.buckfleet_proceeds.specs.Text.{assortment_line, assortment_lines}
 

@@ -1,8 +1,8 @@
 -- Two journals of one instruction, each with numbers of its own in the place of the instruction's.
 use Rattle.std.specs.Prelude.{◌≡◌, ◌⊎◌, ◌≤◌, ℕ, List, [], ◌∷◌, length, Option, Ok}
 use Rattle.buck_apt.specs.Apt.{apt_of}
-use Rattle.buck_apt.specs.Instruction.{InstructionParts}
-use Rattle.buck_apt.specs.Settings.{SettingsParts, with_settings}
+use Rattle.buck_apt_instruction.specs.Instruction.{InstructionParts}
+use Rattle.buck_apt_instruction.specs.Settings.{SettingsParts, with_settings}
 use Rattle.buck_book_postings.specs.History.{IsLawful}
 use Rattle.buck_book_postings.specs.declared.posting.TheConstants.{MOST_POSTINGS}
 use Rattle.buck_book_journal.specs.Journal.{JournalParts, history_of}

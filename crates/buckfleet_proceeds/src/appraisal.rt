@@ -2,7 +2,7 @@
 ghost use Rattle.std.specs.Prelude.{◌≡◌, ℕ, ◌+◌, ◌*◌, ◌<◌, ◌≤◌, List, ◌∷◌, [], ◌++◌, All, IfOk, IfSome, OnOk, length};
 ghost use Rattle.std.specs.Ordering.{nat_cmp};
 ghost use Rattle.std.specs.BTreeMap.{get};
-ghost use Rattle.buck_apt.specs.Instruction.{InstructionParts};
+ghost use Rattle.buck_apt_instruction.specs.Instruction.{InstructionParts};
 ghost use Rattle.buck_dp.specs.Best.{IsAdmissible};
 ghost use Rattle.buck_book_postings.specs.declared.posting.Posting.{Posting};
 ghost use Rattle.buck_book_postings.specs.declared.posting.Posting.TheVariants.{Cut};
@@ -19,7 +19,7 @@ ghost use Rattle.buckfleet_proceeds.specs.inner.Passed.{ArePassed, HasRoom, IsAc
 use crate::adding::add_own;
 use crate::paid::{Account, Paid};
 use crate::paying::add_logs;
-use buck_apt::Instruction;
+use buck_apt_instruction::Instruction;
 use buck_book_journal::Journal;
 use buck_book_postings::{Entry, Posting};
 use buck_dp::Planner;

@@ -15,7 +15,7 @@ use crate::appraisal::appraise;
 use crate::lines::appraisal_text;
 use crate::opened::Opened;
 use crate::replayed::check_lawful;
-use buck_apt::{Instruction, Settings};
+use buck_apt_instruction::{Instruction, Settings};
 use buck_record::Memory;
 use buckfleet_engine_files::{Journals, Workers, read_several, write_text};
 use buckfleet_terms_files::{TermsFault, read_own};

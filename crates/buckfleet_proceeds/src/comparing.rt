@@ -1,7 +1,7 @@
 //! `run_compare`: from the bytes of an instruction and two journals to a comparison.
 ghost use Rattle.std.specs.Prelude.{◌≡◌, ◌⊎◌, ◌<◌, ◌≤◌, IfErr, IfOk, OnOk, length, map};
 ghost use Rattle.buck_record.specs.Reading.{listed};
-ghost use Rattle.buck_apt.specs.Settings.{with_settings};
+ghost use Rattle.buck_apt_instruction.specs.Settings.{with_settings};
 ghost use Rattle.buck_book_postings.specs.History.{IsLawful};
 ghost use Rattle.buck_book_postings.specs.declared.posting.TheConstants.{MOST_POSTINGS};
 ghost use Rattle.buck_book_journal.specs.declared.replay_fault.ReplayFault.{ReplayFault};
@@ -12,7 +12,7 @@ ghost use Rattle.buckfleet_engine_files.specs.Written.{WritesText};
 ghost use Rattle.buckfleet_proceeds.specs.Serving.{AnswersCompare};
 
 use crate::compared::{Run, comparison_text};
-use buck_apt::{Instruction, Settings};
+use buck_apt_instruction::{Instruction, Settings};
 use buck_book_journal::{Journal, ReplayFault};
 use buck_dp::Planner;
 use buck_page_figures::{figures_of, grade_free_of};

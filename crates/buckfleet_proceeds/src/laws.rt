@@ -1,6 +1,6 @@
 //! Laws of appraisals.
 ghost use Rattle.std.specs.Prelude.{List, ◌≤◌};
-ghost use Rattle.buck_apt.specs.Instruction.{InstructionParts};
+ghost use Rattle.buck_apt_instruction.specs.Instruction.{InstructionParts};
 ghost use Rattle.buck_stem.specs.Stem.{StemParts};
 ghost use Rattle.buck_value.specs.declared.log.Log.{Log};
 ghost use Rattle.buck_dp.specs.Best.{IsAdmissible, IsBest, cutting_worth};

@@ -4,7 +4,7 @@ ghost use Rattle.buckfleet_proceeds.specs.Text.{appraisal_text, assortment_line,
 
 use crate::appraisal::Appraisal;
 use crate::paid::{Account, Paid};
-use buck_apt::{Assortment, Instruction};
+use buck_apt_instruction::{Assortment, Instruction};
 use buck_page_cells::{Change, put_change, put_number, put_numbers};
 use buck_page_text::{half_up, put_quoted};
 use buck_record::Memory;

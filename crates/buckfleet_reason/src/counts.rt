@@ -2,7 +2,7 @@
 use crate::form::Seen;
 use crate::shown::Several;
 use crate::source::Said;
-use buck_apt::slots::{DIAMETERS, LENGTHS, MODULE, MOST_TARGETS_TOGETHER, NAME};
+use buck_apt_instruction::slots::{DIAMETERS, LENGTHS, MODULE, MOST_TARGETS_TOGETHER, NAME};
 use buck_record::{Count, Slot};
 use std::fmt;
 

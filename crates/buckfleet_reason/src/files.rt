@@ -5,7 +5,7 @@ use crate::placing::headless;
 use crate::source::{Said, Source};
 use crate::whose::Kind;
 use buck_apt::AptFault;
-use buck_apt::slots::{LENGTHS, TARGETS};
+use buck_apt_instruction::slots::{LENGTHS, TARGETS};
 use buck_stem::StmFault;
 use std::alloc::Global;
 
@@ -72,7 +72,7 @@ pub fn apt_reason(alloc: Global, source: &Source<'_>, fault: &AptFault) -> Said 
     let file = Refused {
         alloc,
         source: *source,
-        rows: [&buck_apt::ITEMS, &[]],
+        rows: [&buck_apt_instruction::ITEMS, &[]],
         kind: Kind::Assortment,
     };
     let (key, wrong) = match *fault {

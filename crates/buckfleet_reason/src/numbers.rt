@@ -4,7 +4,7 @@ use crate::item::Item;
 use crate::rows::range_at;
 use crate::shown::Quoted;
 use crate::source::Said;
-use buck_apt::slots::DIAMETERS;
+use buck_apt_instruction::slots::DIAMETERS;
 use buck_record::{Count, Order};
 
 /// Whether a byte can't stand in a name.

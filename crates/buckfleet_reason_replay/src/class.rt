@@ -1,5 +1,5 @@
 //! Classes by their names.
-use buck_apt::{Assortment, Instruction};
+use buck_apt_instruction::{Assortment, Instruction};
 use buckfleet_reason::Quoted;
 use std::fmt;
 

@@ -3,7 +3,7 @@ ghost use Rattle.buck_rule.specs.Standing.{IsInRange};
 
 use crate::class::ClassName;
 use crate::replay::Unlawful;
-use buck_apt::Instruction;
+use buck_apt_instruction::Instruction;
 use buck_book_postings::Walk;
 use buck_rule::{Standing, step};
 use buckfleet_reason::{Said, Several, Source};

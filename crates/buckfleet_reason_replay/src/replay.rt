@@ -3,7 +3,7 @@ use crate::logs::wrong_log;
 use crate::posting::Who;
 use crate::prices::{price_reason, sheet_reason};
 use crate::targets::WrongTargets;
-use buck_apt::Instruction;
+use buck_apt_instruction::Instruction;
 use buck_book_journal::{Journal, ReplayFault};
 use buck_book_postings::{Entry, MOST_POSTINGS, Posting, Walk};
 use buck_book_replay::replay_in_order;

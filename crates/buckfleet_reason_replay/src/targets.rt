@@ -1,6 +1,6 @@
 //! Targets that may not come into force.
-use buck_apt::Instruction;
-use buck_apt::slots::{MOST_TARGETS_TOGETHER, TARGETS};
+use buck_apt_instruction::Instruction;
+use buck_apt_instruction::slots::{MOST_TARGETS_TOGETHER, TARGETS};
 use buck_book_postings::{TargetsFault, check_targets};
 use buckfleet_reason::{Quoted, Several};
 use std::fmt;

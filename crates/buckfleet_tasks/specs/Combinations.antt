@@ -1,7 +1,7 @@
 -- Which runs a table has a line for, and in which order.
 use Rattle.std.specs.Prelude.{ℕ, ◌≤◌, List, map, All, Option, IfSome}
 use Rattle.std.specs.List.{flat_map}
-use Rattle.buck_apt.specs.Instruction.{IsWithin}
+use Rattle.buck_apt_instruction.specs.Instruction.{IsWithin}
 use Rattle.buck_rule.specs.declared.named.NamedRule.{NamedRule}
 use Rattle.buckfleet_tasks.specs.declared.combination.Combination.{Combination}
 

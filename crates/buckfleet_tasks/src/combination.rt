@@ -2,7 +2,7 @@
 ghost use Rattle.std.specs.Prelude.{◌≡◌, IfNone, IfOk, IfSome};
 ghost use Rattle.buckfleet_tasks.specs.Combinations.{AreNumbers, combinations_of};
 
-use buck_apt::Settings;
+use buck_apt_instruction::Settings;
 use buck_record::Memory;
 use buck_rule::NamedRule;
 use std::alloc::Global;

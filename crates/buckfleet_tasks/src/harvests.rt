@@ -1,5 +1,5 @@
 //! What is asked of stems that are cut: by themselves, by a fleet, or as they are felled.
-use buck_apt::Settings;
+use buck_apt_instruction::Settings;
 use buck_rule::NamedRule;
 
 /// The arguments of a bucking.

@@ -1,7 +1,7 @@
 //! What is asked of journals.
 ghost use Rattle.std.specs.Prelude.{◌<◌, ◌≤◌, vec_len};
 
-use buck_apt::Settings;
+use buck_apt_instruction::Settings;
 use buck_page_cells::Table;
 use buck_rule::NamedRule;
 

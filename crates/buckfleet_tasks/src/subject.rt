@@ -2,7 +2,7 @@
 use crate::journals::AppraiseTask;
 use crate::trials::OwnedTask;
 use crate::work::{Task, Work};
-use buck_apt::Settings;
+use buck_apt_instruction::Settings;
 use buck_rule::NamedRule;
 use std::alloc::{AllocError, Global};
 

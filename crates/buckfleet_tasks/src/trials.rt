@@ -1,6 +1,6 @@
 //! What is asked of sweeps and trials.
 use crate::combination::Combination;
-use buck_apt::Settings;
+use buck_apt_instruction::Settings;
 use buck_rule::NamedRule;
 use buckfleet_trial_draws::Draws;
 

@@ -2,7 +2,7 @@
 use crate::harvests::{BuckTask, FleetTask, LiveTask};
 use crate::journals::{AppraiseTask, CheckTask, CompareTask, ViewTask};
 use crate::trials::{OwnedTask, SweepTask, TrialTask, TuneTask, WishesTask};
-use buck_apt::Settings;
+use buck_apt_instruction::Settings;
 
 /// The task of a run: its command and the arguments.
 #[derive(Drop)]

@@ -5,7 +5,7 @@ use Rattle.std.specs.List.{concat}
 use Rattle.std.proofs.lemmas.List.{append-nil, take_more}
 use Rattle.std.proofs.lemmas.List.Sums.{sum_by-cons}
 use Rattle.std.proofs.lemmas.Slice.Zip.{all_zipped_more}
-use Rattle.buck_apt.specs.Instruction.{AssortmentParts, classes_of}
+use Rattle.buck_apt_instruction.specs.Instruction.{AssortmentParts, classes_of}
 use Rattle.buckfleet_terms_files.specs.Targets.{AreFitting, IsFitting}
 
 -- one more list fits

@@ -11,8 +11,8 @@ use Rattle.buck_record.specs.declared.fault.RecordFault.TheVariants.{Head as NoH
 use Rattle.buck_record.specs.bytes.Record.{items_of, numbers_of}
 use Rattle.buck_record.specs.checking.Check.{◌>>=◌}
 use Rattle.buck_record.specs.checking.Table.{only_in}
-use Rattle.buck_apt.specs.declared.slots.TheConstants.{TARGETS}
-use Rattle.buck_apt.specs.Instruction.{InstructionParts}
+use Rattle.buck_apt_instruction.specs.declared.slots.TheConstants.{TARGETS}
+use Rattle.buck_apt_instruction.specs.Instruction.{InstructionParts}
 use Rattle.buckfleet_terms_files.specs.declared.fault.TargetsFault.{TargetsFault}
 use Rattle.buckfleet_terms_files.specs.declared.fault.TargetsFault.TheVariants.{Count, Range, Sum, Head, Digits, Memory}
 use Rattle.buckfleet_terms_files.specs.Targets.{IsRefused, all_of, lists_from, lists_of}

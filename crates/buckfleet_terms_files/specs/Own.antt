@@ -1,6 +1,6 @@
 -- Which instructions ask for the same cuttings of a stem, but for prices and diameters.
 use Rattle.std.specs.Prelude.{◌≡◌, ◌≢◌, ◌⊎◌, ℕ, ◌<◌, length, slice_get, Some}
-use Rattle.buck_apt.specs.Instruction.{AssortmentParts, InstructionParts}
+use Rattle.buck_apt_instruction.specs.Instruction.{AssortmentParts, InstructionParts}
 use Rattle.buckfleet_terms_files.specs.declared.fault.OwnFault.{OwnFault}
 use Rattle.buckfleet_terms_files.specs.declared.fault.OwnFault.TheVariants.{Refused, Whole, Part}
 

@@ -6,8 +6,8 @@ use Rattle.buck_record.specs.Reading.{with_fault}
 use Rattle.buck_record.specs.bytes.Record.{items_of, numbers_of}
 use Rattle.buck_record.specs.checking.Check.{◌>>=◌}
 use Rattle.buck_record.specs.checking.Table.{only_in}
-use Rattle.buck_apt.specs.declared.slots.TheConstants.{TARGETS}
-use Rattle.buck_apt.specs.Instruction.{AssortmentParts, InstructionParts, classes_of}
+use Rattle.buck_apt_instruction.specs.declared.slots.TheConstants.{TARGETS}
+use Rattle.buck_apt_instruction.specs.Instruction.{AssortmentParts, InstructionParts, classes_of}
 use Rattle.buck_book_postings.specs.Targets.{AreTargets, IsTargetsFault}
 use Rattle.buck_book_postings.specs.declared.targets.TargetsFault.TheVariants.{Range as TooGreat, Sum as TooMany}
 use Rattle.buckfleet_terms_files.specs.declared.fault.TargetsFault.{TargetsFault}

@@ -4,7 +4,7 @@ ghost use Rattle.std.specs.Prelude.{IfNone, IfSome, MatchOption};
 ghost use Rattle.buckfleet_terms_files.specs.Own.{HasLogsOf, HasShapeOf, IsOther, IsShapeFault};
 
 use crate::fault::OwnFault;
-use buck_apt::{Assortment, Instruction};
+use buck_apt_instruction::{Assortment, Instruction};
 
 /// The number and the kind of the item by which two assortments differ though they may not: the species, else the
 /// grades, the lengths or the trim.

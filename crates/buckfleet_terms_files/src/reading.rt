@@ -10,7 +10,7 @@ ghost use Rattle.buckfleet_terms_files.specs.Reading.{AnswersLast, AnswersMore, 
 use crate::fault::{OwnFault, TermsFault};
 use crate::own::shape_fault;
 use crate::wanted::targets_in;
-use buck_apt::Instruction;
+use buck_apt_instruction::Instruction;
 use buckfleet_engine_files::{EngineFault, Open, read_file, read_instruction};
 use std::alloc::Global;
 use std::io;

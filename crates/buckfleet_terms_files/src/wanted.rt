@@ -3,15 +3,15 @@ ghost use Rattle.std.specs.Prelude.{◌≡◌, ◌↔◌, IfErr, IfOk, IsTrue, O
 ghost use Rattle.std.specs.List.{concat};
 ghost use Rattle.buck_record.specs.Reading.{Gives, listed, with_fault};
 ghost use Rattle.buck_record.specs.bytes.Record.{numbers_of};
-ghost use Rattle.buck_apt.specs.Instruction.{classes};
+ghost use Rattle.buck_apt_instruction.specs.Instruction.{classes};
 ghost use Rattle.buck_book_postings.specs.Targets.{AreTargets};
 ghost use Rattle.buckfleet_terms_files.specs.declared.fault.TargetsFault.TheVariants.{Digits, Memory};
 ghost use Rattle.buckfleet_terms_files.specs.Targets.{AreFitting, HasTargets, IsRefused, all_of, lists_of};
 ghost use Rattle.buckfleet_terms_files.specs.inner.Checked.{IsCheckFault};
 
 use crate::fault::TargetsFault;
-use buck_apt::slots::TARGETS;
-use buck_apt::{Assortment, Instruction};
+use buck_apt_instruction::slots::TARGETS;
+use buck_apt_instruction::{Assortment, Instruction};
 use buck_book_postings::check_targets;
 use buck_record::{Listed, Piece, RecordFault, numbers, pieces_at};
 use std::alloc::Global;

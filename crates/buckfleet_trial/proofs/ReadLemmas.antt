@@ -6,8 +6,8 @@ use Rattle.std.specs.declared.vec.Vec.{Vec}
 use Rattle.std.specs.declared.alloc.Global.{Global}
 use Rattle.buck_apt.specs.Apt.{apt_of}
 use Rattle.std.proofs.lemmas.List.{get_or_default, length-map}
-use Rattle.buck_apt.specs.Instruction.{InstructionParts}
-use Rattle.buck_apt.specs.Wanted.{MayBeWanted}
+use Rattle.buck_apt_instruction.specs.Instruction.{InstructionParts}
+use Rattle.buck_apt_instruction.specs.Wanted.{MayBeWanted}
 use Rattle.buck_book_postings.specs.Targets.{AreTargets}
 use Rattle.buck_stem.specs.declared.stem.Stem.{Stem}
 use Rattle.buck_fleet_round_robin.specs.Turn.{stems_in_all}

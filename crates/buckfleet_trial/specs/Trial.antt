@@ -4,8 +4,8 @@ use Rattle.std.specs.List.{AllZip}
 use Rattle.std.specs.declared.sync.Arc.{Arc}
 use Rattle.std.specs.declared.vec.Vec.{Vec}
 use Rattle.std.specs.declared.alloc.Global.{Global}
-use Rattle.buck_apt.specs.Instruction.{InstructionParts}
-use Rattle.buck_apt.specs.Settings.{with_settings}
+use Rattle.buck_apt_instruction.specs.Instruction.{InstructionParts}
+use Rattle.buck_apt_instruction.specs.Settings.{with_settings}
 use Rattle.buck_stem.specs.declared.stem.Stem.{Stem}
 use Rattle.buck_book_postings.specs.Degree.{IsDegree}
 use Rattle.buck_book_postings.specs.History.{HistoryParts}

@@ -1,6 +1,6 @@
 //! The run of lists that are cut in turn, without a journal: what was cut, and what that is worth at base prices.
 ghost use Rattle.std.specs.Prelude.{◌≡◌, ◌<◌, ◌≤◌, ◌*◌, ◌^◌, IfErr, IfOk, length, sum_by};
-ghost use Rattle.buck_apt.specs.Instruction.{classes};
+ghost use Rattle.buck_apt_instruction.specs.Instruction.{classes};
 ghost use Rattle.buck_rule.specs.GivenBy.{GivesBy};
 ghost use Rattle.buck_book_postings.specs.declared.posting.TheConstants.{MOST_POSTINGS};
 ghost use Rattle.buck_page_figures.specs.Figures.{at_base_in, base_sheet};
@@ -10,7 +10,7 @@ ghost use Rattle.buckfleet_trial_sweep.specs.Table.{IsLeast};
 ghost use Rattle.buckfleet_trial.specs.Light.{AreBest, AreBestOf, AreDegrees, HasCutOf, lesser};
 ghost use Rattle.buckfleet_trial.specs.inner.Worth.{IsCutUnder, worth_under};
 
-use buck_apt::Instruction;
+use buck_apt_instruction::Instruction;
 use buck_book_postings::{CutFault, Parts, Posting, degree_at};
 use buck_dp::{Planner, worth};
 use buck_fleet_round_robin::cut_in_turn;

@@ -6,7 +6,7 @@ ghost use Rattle.buckfleet_trial.specs.Trial.{AreSpreads, IsFromNothing, costs_i
 ghost use Rattle.buckfleet_trial.specs.Lines.{IsPut, columns_of};
 
 use crate::trial::Drawn;
-use buck_apt::Instruction;
+use buck_apt_instruction::Instruction;
 use buck_page_cells::{Change, put_spread, spread_of};
 use buck_page_text::half_up;
 use buck_record::Memory;

@@ -19,7 +19,7 @@ ghost use Rattle.buckfleet_trial_owned.specs.inner.Owned.{AreTails, IsFirstLine,
 ghost use Rattle.buckfleet_trial.specs.Running.{AnswersOver};
 
 use crate::outcome::OwnRun;
-use buck_apt::Instruction;
+use buck_apt_instruction::Instruction;
 use buck_book_journal::Journal;
 use buck_book_postings::Parts;
 use buck_page_cells::{Change, put_numbers, put_spread, spread_of};

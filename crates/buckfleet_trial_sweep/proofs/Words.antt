@@ -2,7 +2,7 @@
 pub use Rattle.std.proofs.Common.{◌≡◌, ℕ, List, [], ◌∷◌, Option, sym, ap, ◌∙◌, ◌+◌, ◌≤◌, ◌<◌, inl, inr, length, take, get_or, ◌++◌, Some, None, IfSome, true, false, nat_le, refl, subst, arith, ◌≢◌, Result, Ok, Err, ◌*◌, drop}
 pub use Rattle.std.proofs.Common.{append_assoc, append-nil, zero-mul, rules, length-append, map}
 pub use Rattle.std.proofs.lemmas.Option.{same_Some, IfSome_then}
-pub use Rattle.buck_apt.specs.Instruction.{InstructionParts}
+pub use Rattle.buck_apt_instruction.specs.Instruction.{InstructionParts}
 pub use Rattle.buck_book_postings.specs.Posting.{targets_of}
 pub use Rattle.buck_book_journal.specs.Journal.{history_of}
 pub use Rattle.buck_page_figures.specs.declared.degrees.Degrees.{Degrees}

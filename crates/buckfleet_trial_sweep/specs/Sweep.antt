@@ -1,7 +1,7 @@
 -- What a table over an instruction file and stem files is: a line for each combination, from a run of its own.
 use Rattle.std.specs.Prelude.{◌≡◌, ℕ, List, [], ◌∷◌, ◌++◌, length, Option, Result, Ok, Err}
 use Rattle.buck_apt.specs.Apt.{apt_of}
-use Rattle.buck_apt.specs.Instruction.{InstructionParts}
+use Rattle.buck_apt_instruction.specs.Instruction.{InstructionParts}
 use Rattle.buck_book_postings.specs.History.{HistoryParts}
 use Rattle.buck_fleet_round_robin.specs.Turn.{AreInTurn}
 use Rattle.buckfleet_engine_files.specs.declared.fault.EngineFault.{EngineFault}

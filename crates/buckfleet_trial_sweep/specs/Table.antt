@@ -2,7 +2,7 @@
 use Rattle.std.specs.Prelude.{◌≡◌, ◌≤◌, ◌-◌, ◌*◌, ◌==◌, ◌+◌, ℕ, List, [], ◌∷◌, ◌++◌, length, map, sum_by, cond, Option, Some, None, IfSome, codes}
 use Rattle.std.specs.List.{flat_map, zip, AllByRecursion, Contains}
 use Rattle.std.specs.Fmt.{decimal}
-use Rattle.buck_apt.specs.Instruction.{InstructionParts, AssortmentParts}
+use Rattle.buck_apt_instruction.specs.Instruction.{InstructionParts, AssortmentParts}
 use Rattle.buck_book_postings.specs.declared.posting.Posting.{Posting}
 use Rattle.buck_book_postings.specs.History.{HistoryParts}
 use Rattle.buck_page_figures.specs.Figures.{AreUnsteered, at_base_in, volume_in, worth_in}

@@ -8,7 +8,7 @@ ghost use Rattle.buckfleet_trial_sweep.specs.inner.Lines.{IsPart};
 ghost use Rattle.buck_book_postings.specs.declared.posting.TheConstants.{MOST_POSTINGS};
 
 use crate::figures::line_of;
-use buck_apt::Instruction;
+use buck_apt_instruction::Instruction;
 use buck_book_journal::Journal;
 use buck_book_postings::{Book, CutFault};
 use buck_fleet_round_robin::cut_in_turn;

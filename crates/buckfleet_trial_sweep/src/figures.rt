@@ -1,6 +1,6 @@
 //! The line of a run, from its journal.
 ghost use Rattle.std.specs.Prelude.{◌≡◌, ◌++◌, ◌≤◌, IfOk, OnOk, length};
-ghost use Rattle.buck_apt.specs.Instruction.{classes};
+ghost use Rattle.buck_apt_instruction.specs.Instruction.{classes};
 ghost use Rattle.buck_book_postings.specs.History.{IsLawful};
 ghost use Rattle.buck_book_journal.specs.Journal.{history_of};
 ghost use Rattle.buckfleet_trial_sweep.specs.Table.{IsLeast, IsLine, apart_of, cells, rate_of, volumes_of, wholes_of};
@@ -8,7 +8,7 @@ ghost use Rattle.buckfleet_trial_sweep.specs.inner.Lines.{AreAllDegrees, lesser,
 ghost use Rattle.buck_book_postings.specs.declared.posting.TheConstants.{MOST_POSTINGS};
 
 use crate::table::put_cells;
-use buck_apt::Instruction;
+use buck_apt_instruction::Instruction;
 use buck_book_journal::Journal;
 use buck_dp::Planner;
 use buck_page_cells::put_number;

@@ -11,7 +11,7 @@ mod running;
 mod serving;
 mod table;
 
-pub use buck_apt::Settings;
+pub use buck_apt_instruction::Settings;
 pub use buckfleet_tasks::{Combination, SweepTask, combinations};
 pub use cutting::run_line;
 pub use running::{run_sweep, run_sweep_in_parts};

@@ -2,7 +2,7 @@
 ghost use Rattle.std.specs.Prelude.{◌≡◌, ◌≤◌, ◌++◌, length, OnOk};
 ghost use Rattle.buckfleet_trial_sweep.specs.Table.{cells, column, degree_heads, head_line, pair_heads};
 
-use buck_apt::{Assortment, Instruction};
+use buck_apt_instruction::{Assortment, Instruction};
 use buck_page_cells::put_number;
 use buck_page_text::put_quoted;
 use buck_record::Memory;

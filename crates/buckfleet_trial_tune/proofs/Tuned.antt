@@ -2,7 +2,7 @@
 use Rattle.std.proofs.Common.{◌≡◌, ◌∙◌, ℕ, ◌+◌, ◌<◌, ◌≤◌, List, [], Some, length, map, get_or, sym, ap, arith}
 use Rattle.std.specs.Prelude.{slice_get, slice_index}
 use Rattle.std.proofs.lemmas.List.{get_or-map, length-map}
-use Rattle.buck_apt.specs.Instruction.{InstructionParts, IsInstruction}
+use Rattle.buck_apt_instruction.specs.Instruction.{InstructionParts, IsInstruction}
 use Rattle.buck_value.specs.Sheet.{SheetParts, base_prices, sheet_of}
 use Rattle.buck_value.proofs.Prices.{base_price-le}
 use Rattle.buck_book_postings.specs.declared.posting.Posting.{Posting}

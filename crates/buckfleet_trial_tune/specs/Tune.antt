@@ -4,9 +4,9 @@ use Rattle.std.specs.declared.sync.Arc.{Arc}
 use Rattle.std.specs.declared.vec.Vec.{Vec}
 use Rattle.std.specs.declared.alloc.Global.{Global}
 use Rattle.buck_apt.specs.Apt.{apt_of}
-use Rattle.buck_apt.specs.Instruction.{InstructionParts, classes}
-use Rattle.buck_apt.specs.Priced.{with_prices}
-use Rattle.buck_apt.specs.Settings.{SettingsParts, with_settings}
+use Rattle.buck_apt_instruction.specs.Instruction.{InstructionParts, classes}
+use Rattle.buck_apt_instruction.specs.Priced.{with_prices}
+use Rattle.buck_apt_instruction.specs.Settings.{SettingsParts, with_settings}
 use Rattle.buck_apt.specs.Text.{text_of}
 use Rattle.buck_stem.specs.declared.stem.Stem.{Stem}
 use Rattle.buck_value.specs.Sheet.{base_prices}

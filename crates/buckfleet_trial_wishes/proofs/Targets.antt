@@ -6,8 +6,8 @@ use Rattle.std.proofs.lemmas.List.{take_all}
 use Rattle.std.proofs.lemmas.List.Elements.{All-append, All-drop, All-take}
 use Rattle.std.proofs.lemmas.List.Sums.{sum_by-cons}
 use Rattle.std.proofs.lemmas.Option.{same_Some, slice_get_within}
-use Rattle.buck_apt.specs.Instruction.{AssortmentParts, InstructionParts, classes, classes_before, classes_of}
-use Rattle.buck_apt.specs.Wanted.{MayBeWanted, all_wanting, wanting, with_targets}
+use Rattle.buck_apt_instruction.specs.Instruction.{AssortmentParts, InstructionParts, classes, classes_before, classes_of}
+use Rattle.buck_apt_instruction.specs.Wanted.{MayBeWanted, all_wanting, wanting, with_targets}
 use Rattle.buck_book_postings.specs.Degree.{part_of}
 use Rattle.buckfleet_trial_wishes.specs.Wishes.{IsMoved, moved_part}
 use Rattle.buckfleet_trial_wishes.proofs.MovedLemmas.{moved_length, moved_low, moved_sum}

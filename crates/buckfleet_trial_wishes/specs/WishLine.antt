@@ -3,7 +3,7 @@ use Rattle.std.specs.Prelude.{◌≡◌, ℕ, ◌+◌, ◌-◌, ◌/◌, ◌%◌
 use Rattle.std.specs.Fmt.{decimal}
 use Rattle.std.specs.List.{AllZip, flat_map, zip}
 use Rattle.std.specs.Option.{unwrap_or}
-use Rattle.buck_apt.specs.Instruction.{AssortmentParts, InstructionParts}
+use Rattle.buck_apt_instruction.specs.Instruction.{AssortmentParts, InstructionParts}
 use Rattle.buck_book_postings.specs.Degree.{part_of}
 use Rattle.buck_book_postings.specs.Posting.{opening_targets}
 use Rattle.buck_page_text.specs.Names.{quoted}

@@ -4,9 +4,9 @@ use Rattle.std.specs.List.{AllZip, Contains, flat_map}
 use Rattle.std.specs.declared.sync.Arc.{Arc}
 use Rattle.std.specs.declared.vec.Vec.{Vec}
 use Rattle.std.specs.declared.alloc.Global.{Global}
-use Rattle.buck_apt.specs.Instruction.{AssortmentParts, InstructionParts, classes_of}
-use Rattle.buck_apt.specs.Settings.{SettingsParts, with_settings}
-use Rattle.buck_apt.specs.Wanted.{with_targets}
+use Rattle.buck_apt_instruction.specs.Instruction.{AssortmentParts, InstructionParts, classes_of}
+use Rattle.buck_apt_instruction.specs.Settings.{SettingsParts, with_settings}
+use Rattle.buck_apt_instruction.specs.Wanted.{with_targets}
 use Rattle.buck_stem.specs.declared.stem.Stem.{Stem}
 use Rattle.buck_book_postings.specs.Counts.{AreClassCounts}
 use Rattle.buck_book_postings.specs.Degree.{part_of}

@@ -1,6 +1,6 @@
 //! What all runs of wishes share, and the runs of an instruction.
 ghost use Rattle.std.specs.Prelude.{◌≡◌, ◌<◌, ◌≤◌, IfErr, IfOk, Some, length, slice_get};
-ghost use Rattle.buck_apt.specs.Instruction.{AssortmentParts, classes};
+ghost use Rattle.buck_apt_instruction.specs.Instruction.{AssortmentParts, classes};
 ghost use Rattle.buck_book_postings.specs.Degree.{part_of};
 ghost use Rattle.buck_book_postings.specs.Posting.{opening_targets};
 ghost use Rattle.buckfleet_trial_sweep.specs.Runs.{IsStop};
@@ -8,7 +8,7 @@ ghost use Rattle.buckfleet_trial_wishes.specs.inner.Asking.{AreDrawnBy, AreRunsB
 
 use crate::moved::Asked;
 use crate::outcome::{Outcome, Runs};
-use buck_apt::Instruction;
+use buck_apt_instruction::Instruction;
 use buck_rule::NamedRule;
 use buckfleet_engine_files::EngineFault;
 use buckfleet_engine_input::Input;

@@ -1,11 +1,11 @@
 //! A target that is moved half way to what its class has unsteered.
 ghost use Rattle.std.specs.Prelude.{◌≡◌, ◌<◌, ◌≤◌, ◌*◌, ◌^◌, ◌++◌, ◌↔◌, All, IfOk, IsTrue, OnOk, Some, length, slice_get, slice_index, sum};
-ghost use Rattle.buck_apt.specs.Instruction.{AssortmentParts, classes};
-ghost use Rattle.buck_apt.specs.Wanted.{MayBeWanted};
+ghost use Rattle.buck_apt_instruction.specs.Instruction.{AssortmentParts, classes};
+ghost use Rattle.buck_apt_instruction.specs.Wanted.{MayBeWanted};
 ghost use Rattle.buck_book_postings.specs.Degree.{part_of};
 ghost use Rattle.buckfleet_trial_wishes.specs.Wishes.{IsMoved, IsWish, IsWishIn, factor, greatest, moved_part, moved_target};
 
-use buck_apt::Instruction;
+use buck_apt_instruction::Instruction;
 use buck_page_figures::{number_at, part, sum_of};
 use buck_page_text::half_up;
 use buck_record::Memory;

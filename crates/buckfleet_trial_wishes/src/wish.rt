@@ -1,7 +1,7 @@
 //! What a wish costs: its runs, with its target moved, beside those with all wishes.
 ghost use Rattle.std.specs.Prelude.{◌≡◌, ◌<◌, ◌≤◌, ◌++◌, IfErr, IfOk, List, OnOk, Some, length, slice_get, ℕ};
 ghost use Rattle.std.specs.List.{AllZip};
-ghost use Rattle.buck_apt.specs.Instruction.{AssortmentParts, classes, classes_of};
+ghost use Rattle.buck_apt_instruction.specs.Instruction.{AssortmentParts, classes, classes_of};
 ghost use Rattle.buck_book_postings.specs.Degree.{part_of};
 ghost use Rattle.buck_book_postings.specs.Posting.{opening_targets};
 ghost use Rattle.buckfleet_trial_sweep.specs.Runs.{IsStop};
@@ -12,7 +12,7 @@ ghost use Rattle.buckfleet_trial_wishes.specs.inner.Asking.{IsAsking, IsToldOf};
 use crate::asking::Asking;
 use crate::moved::moved_targets;
 use crate::outcome::{Outcome, Runs};
-use buck_apt::Assortment;
+use buck_apt_instruction::Assortment;
 use buck_page_cells::{Change, put_change, put_number, put_numbers, put_spread, spread_of};
 use buck_page_figures::{number_at, part, sum_of};
 use buck_page_text::put_quoted;

@@ -2,9 +2,9 @@
 ghost use Rattle.std.specs.Prelude.{◌≡◌, ◌<◌, ◌≤◌, ◌*◌, ◌+◌, ◌++◌, IfErr, IfOk, OnOk, length, map};
 ghost use Rattle.std.specs.List.{flat_map};
 ghost use Rattle.std.specs.Ordering.{nat_cmp};
-ghost use Rattle.buck_apt.specs.Instruction.{IsInstruction};
-ghost use Rattle.buck_apt.specs.Settings.{with_settings};
-ghost use Rattle.buck_apt.specs.Wanted.{MayBeWanted};
+ghost use Rattle.buck_apt_instruction.specs.Instruction.{IsInstruction};
+ghost use Rattle.buck_apt_instruction.specs.Settings.{with_settings};
+ghost use Rattle.buck_apt_instruction.specs.Wanted.{MayBeWanted};
 ghost use Rattle.buck_book_postings.specs.Posting.{opening_targets};
 ghost use Rattle.buckfleet_trial_sweep.specs.Runs.{IsStop};
 ghost use Rattle.buckfleet_terms_files.specs.Telling.{WritesTerms};
@@ -19,7 +19,7 @@ ghost use Rattle.buckfleet_trial_wishes.specs.inner.Asking.{AreAsked, AreBelow, 
 use crate::asking::Asking;
 use crate::outcome::{Outcome, Runs};
 use crate::wish::{Told, Wish, put_degree, put_worth, tell_wish};
-use buck_apt::Instruction;
+use buck_apt_instruction::Instruction;
 use buck_record::Memory;
 use buck_rule::NamedRule;
 use buck_stem::Stem;

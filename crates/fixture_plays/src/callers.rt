@@ -4,7 +4,7 @@ ghost use Rattle.buck_rule.specs.Stored.{AllAnswer};
 ghost use Rattle.buck_book_postings.specs.History.{IsLawful};
 ghost use Rattle.buck_fleet.specs.Crew.{IsCrew, parts_of};
 
-use buck_apt::Instruction;
+use buck_apt_instruction::Instruction;
 use buck_fleet::{CloseFault, Closed, Fleet, Gate, OpenFault, RunFault, Seat, run_fleet};
 use buck_rule::{Rule, Standing};
 use buck_stem::Stem;

@@ -8,7 +8,7 @@ ghost use Rattle.buck_fleet.specs.Fleet.{IsSeatIn};
 ghost use Rattle.buck_fleet.specs.Crew.{IsCrew, parts_of};
 
 use crate::stage::{Stage, Told};
-use buck_apt::Instruction;
+use buck_apt_instruction::Instruction;
 use buck_book_postings::Plan;
 use buck_fleet::{CloseFault, Closed, CutFault, Fleet, OpenFault, RetargetFault, Seat, TryFault};
 use buck_rule::{Rule, Standing};

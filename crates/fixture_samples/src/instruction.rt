@@ -1,5 +1,6 @@
 //! Instructions.
-use buck_apt::{Instruction, read_apt};
+use buck_apt::read_apt;
+use buck_apt_instruction::Instruction;
 use std::alloc::Global;
 use std::sync::Arc;
 use std::test::Fail;

@@ -3,7 +3,7 @@ ghost use Rattle.std.specs.Prelude.{◌≡◌, ◌≤◌, IfOk};
 ghost use Rattle.buck_board.specs.Board.{IsSeatOf};
 
 use crate::callers::open_for_two;
-use buck_apt::Instruction;
+use buck_apt_instruction::Instruction;
 use buck_board::{Board, BoardSeat};
 use buck_value::Sheet;
 use std::alloc::Global;

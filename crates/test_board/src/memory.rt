@@ -4,7 +4,7 @@ ghost use Rattle.std.specs.Prelude.{◌≡◌, ◌≤◌};
 ghost use Rattle.buck_board.specs.Board.{IsSeatOf};
 
 use crate::fixtures::*;
-use buck_apt::Instruction;
+use buck_apt_instruction::Instruction;
 use buck_board::{Board, BoardSeat, Memory};
 use fixture_samples::saw_instruction;
 use std::alloc::Global;

@@ -4,7 +4,7 @@ ghost use Rattle.buck_board.specs.Board.{IsSeatOf};
 
 use crate::callers::are_alike;
 use crate::fixtures::*;
-use buck_apt::Instruction;
+use buck_apt_instruction::Instruction;
 use buck_board::{Board, BoardSeat, Memory, Snapshot};
 use buck_value::Sheet;
 use fixture_samples::saw_instruction;

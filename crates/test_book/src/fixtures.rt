@@ -1,5 +1,5 @@
 //! Books of a short saw instruction, and what is expected of them.
-use buck_apt::Instruction;
+use buck_apt_instruction::Instruction;
 use buck_book_postings::Book;
 use buck_book_text::journal_text;
 use buck_stem::Stem;

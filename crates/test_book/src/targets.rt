@@ -1,5 +1,5 @@
 //! Targets that may come into force, and those that may not.
-use buck_apt::Instruction;
+use buck_apt_instruction::Instruction;
 use buck_book_postings::{TargetsFault, check_targets};
 use fixture_samples::{largest_instruction, saw_instruction};
 use std::test::Fail;

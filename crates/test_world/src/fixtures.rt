@@ -2,7 +2,7 @@
 ghost use Rattle.std.specs.Prelude.{◌≡◌};
 ghost use Rattle.buck_rule.specs.Stored.{Answers};
 
-use buck_apt::Instruction;
+use buck_apt_instruction::Instruction;
 use buck_fleet_world::{Event, Memory, Stage, StepFault, World};
 use buck_rule::Standing;
 use buck_stem::Stem;

@@ -5,7 +5,7 @@ ghost use Rattle.buck_rule.specs.Stored.{Answers};
 
 use crate::fixtures::*;
 use crate::plain::{Plain, does};
-use buck_apt::Instruction;
+use buck_apt_instruction::Instruction;
 use buck_book_postings::{Book, Demand, Entry, Plan, Posting};
 use buck_fleet_world::{Memory, StepFault, World};
 use buck_rule::{Rule, Standing, step};

@@ -4,7 +4,7 @@ ghost use Rattle.buck_value.specs.Allowed.{IsAllowed, end_of, worth_of};
 ghost use Rattle.buck_dp_own_logs.specs.declared.reason.Reason.TheVariants.{Species};
 ghost use Rattle.buck_dp_own_logs.specs.Reasons.{Applies};
 
-use buck_apt::Instruction;
+use buck_apt_instruction::Instruction;
 use buck_dp_own_logs::{Judged, Reason, judge, reason_of};
 use buck_stem::Stem;
 use buck_value::{Log, Sheet};

@@ -1,8 +1,8 @@
 -- What the conditions of this crate say of a book.
 use Rattle.std.specs.Prelude.{◌≡◌, ℕ, List}
 use Rattle.std.specs.Fn.{FnReturnsAt}
-use Rattle.buck_apt.specs.declared.class.Class.{Class}
-use Rattle.buck_apt.specs.Instruction.{InstructionParts, IsClass, index_of}
+use Rattle.buck_apt_instruction.specs.declared.class.Class.{Class}
+use Rattle.buck_apt_instruction.specs.Instruction.{InstructionParts, IsClass, index_of}
 use Rattle.buck_book_postings.specs.declared.posting.Posting.{Posting}
 use Rattle.buck_book_postings.specs.Plan.{PlanParts}
 use Rattle.buck_book_postings.specs.History.{standing_of}

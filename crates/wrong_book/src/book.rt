@@ -1,6 +1,6 @@
 //! Wrong answers of books.
 ghost use Rattle.std.specs.Prelude.{◌≡◌, ◌≢◌, ◌+◌, ◌<◌, ◌↔◌, IsTrue, [], None, Some, length, slice_get};
-ghost use Rattle.buck_apt.specs.Instruction.{IsClass, classes};
+ghost use Rattle.buck_apt_instruction.specs.Instruction.{IsClass, classes};
 ghost use Rattle.buck_rule.specs.Stored.{Answers};
 ghost use Rattle.buck_value.specs.Allowed.{IsAllowed, worth_of};
 ghost use Rattle.buck_book_postings.specs.Posting.{opening_targets, targets_of, cuts_since_end};
@@ -10,7 +10,7 @@ ghost use Rattle.buck_book_postings.specs.History.{in_force, version_of};
 ghost use Rattle.buck_book_postings.specs.Book.{IsReadyFor, IsReadyDemand};
 ghost use Rattle.wrong_book.specs.Books.{IsNoAnswerWith, IsNoAnswerWithDemand};
 
-use buck_apt::{Class, Instruction};
+use buck_apt_instruction::{Class, Instruction};
 use buck_book_postings::{
     Book, CutFault, Demand, DemandRefusal, Entry, Memory, Plan, Posting, Ready, ReadyDemand,
     Refusal, TargetsFault, check_targets,

@@ -4,7 +4,7 @@ ghost use Rattle.buck_dp.specs.Best.{IsAdmissible, cutting_worth};
 ghost use Rattle.buck_book_postings.specs.History.{sheet_at};
 ghost use Rattle.buck_book_replay.specs.Replay.{IsNumbered};
 
-use buck_apt::Instruction;
+use buck_apt_instruction::Instruction;
 use buck_book_journal::{Journal, ReplayFault};
 use buck_book_postings::{Entry, Posting};
 use buck_book_replay::replay_in_parts;

@@ -8,7 +8,7 @@ ghost use Rattle.buck_book_postings.specs.History.{IsLawful, PricesMeet, prices_
 ghost use Rattle.buck_book_journal.specs.Journal.{history_of};
 ghost use Rattle.buck_book_postings.specs.declared.posting.TheConstants.{MOST_POSTINGS};
 
-use buck_apt::Instruction;
+use buck_apt_instruction::Instruction;
 use buck_book_journal::{Journal, ReplayFault};
 use buck_book_postings::{Demand, Entry, Posting};
 use buck_book_replay::laws::faults_are_unlawful;

@@ -1,6 +1,6 @@
 //! Wrong answers of a way through the postings of a history.
 ghost use Rattle.std.specs.Prelude.{◌≡◌, ◌<◌, [], ◌∷◌, length};
-ghost use Rattle.buck_apt.specs.Instruction.{classes};
+ghost use Rattle.buck_apt_instruction.specs.Instruction.{classes};
 ghost use Rattle.buck_book_postings.specs.Posting.{cuts_since_end};
 ghost use Rattle.buck_book_postings.specs.Counts.{calls_of};
 ghost use Rattle.buck_book_postings.specs.History.{PricesMeet};
@@ -10,7 +10,7 @@ ghost use Rattle.buck_book_postings.specs.Pricing.{AreAnswers};
 ghost use Rattle.buck_book_postings.specs.Walk.{StandsAfter, passed};
 ghost use Rattle.wrong_book.specs.Books.{IsRightPriceAt};
 
-use buck_apt::Instruction;
+use buck_apt_instruction::Instruction;
 use buck_book_postings::{Demand, Memory, Posting, Walk};
 use buck_rule::{Rule, Standing};
 use buck_value::Sheet;

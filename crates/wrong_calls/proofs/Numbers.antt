@@ -3,8 +3,8 @@ use Rattle.std.proofs.Common.{◌≡◌, ◌≤◌, ℕ, List, [], ◌∷◌, Op
 use Rattle.std.specs.Prelude.{IfSome}
 use Rattle.std.specs.List.{AllZip}
 use Rattle.std.proofs.lemmas.Option.{none-some}
-use Rattle.buck_apt.specs.Instruction.{IsWithin}
-use Rattle.buck_apt.specs.Settings.{SettingsParts}
+use Rattle.buck_apt_instruction.specs.Instruction.{IsWithin}
+use Rattle.buck_apt_instruction.specs.Settings.{SettingsParts}
 use Rattle.buckfleet_tasks.specs.declared.combination.Combination.{Combination}
 use Rattle.buck_c_calls.specs.declared.asked.Numbers.{Numbers}
 use Rattle.buck_c_calls.specs.declared.asked.Run.{Run}

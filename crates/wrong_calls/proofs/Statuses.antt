@@ -2,7 +2,7 @@
 use Rattle.std.proofs.Common.{◌≡◌, ℕ, List, Some, Result, Ok, Err, inl, inr, sym, ap, ◌∙◌, arith}
 use Rattle.buck_apt.specs.declared.fault.AptFault.{AptFault}
 use Rattle.buck_apt.specs.Apt.{apt_of}
-use Rattle.buck_apt.specs.Instruction.{InstructionParts}
+use Rattle.buck_apt_instruction.specs.Instruction.{InstructionParts}
 use Rattle.buck_stem.specs.Stem.{StemParts}
 use Rattle.buck_stem.specs.file.Stm.{stm_of}
 use Rattle.buckfleet_engine_files.specs.declared.fault.EngineFault.{EngineFault}

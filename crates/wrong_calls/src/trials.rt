@@ -1,7 +1,7 @@
 //! Wrong answers of what a harvest would come to.
 ghost use Rattle.std.specs.Prelude.{◌≡◌, ◌≢◌, ◌<◌, ◌∷◌, ℕ, List, Ok, length};
 ghost use Rattle.buck_apt.specs.Apt.{apt_of};
-ghost use Rattle.buck_apt.specs.Instruction.{InstructionParts};
+ghost use Rattle.buck_apt_instruction.specs.Instruction.{InstructionParts};
 ghost use Rattle.buckfleet_terms_files.specs.Targets.{HasTargets};
 ghost use Rattle.buck_c_calls.specs.Turns.{AreFiles};
 

@@ -1,8 +1,8 @@
 -- The reports that wrong bodies would make of a history.
 use Rattle.std.specs.Prelude.{ℕ, ◌+◌, ◌*◌, List, [], ◌∷◌, ◌++◌, length, slice_index, codes, sum_by}
 use Rattle.std.specs.List.{flat_map, range_with_len}
-use Rattle.buck_apt.specs.declared.class.Class.{Class}
-use Rattle.buck_apt.specs.Instruction.{AssortmentParts, index_of}
+use Rattle.buck_apt_instruction.specs.declared.class.Class.{Class}
+use Rattle.buck_apt_instruction.specs.Instruction.{AssortmentParts, index_of}
 use Rattle.buck_record.specs.writing.Line.{line_of}
 use Rattle.buck_book_postings.specs.declared.posting.Posting.{Posting}
 use Rattle.buck_book_postings.specs.Degree.{part_of, degree_of}

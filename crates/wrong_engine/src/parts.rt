@@ -1,6 +1,6 @@
 //! Wrong bodies of a bucking whose stems are cut in several threads at once, and of a check by such threads.
 ghost use Rattle.std.specs.Prelude.{◌≡◌, ◌≢◌, List, Ok};
-ghost use Rattle.buck_apt.specs.Instruction.{InstructionParts};
+ghost use Rattle.buck_apt_instruction.specs.Instruction.{InstructionParts};
 ghost use Rattle.buck_apt.specs.Apt.{apt_of};
 ghost use Rattle.buck_book_postings.specs.History.{IsLawful};
 ghost use Rattle.buck_book_journal.specs.Journal.{JournalParts, history_of};

@@ -1,6 +1,6 @@
 //! Wrong bodies of the report of a closed fleet, and of the degree of apportionment.
 ghost use Rattle.std.specs.Prelude.{◌≡◌, ◌≢◌, ◌++◌, ◌<◌, ◌∷◌, [], ℕ, List, Some, length, slice_get, sum};
-ghost use Rattle.buck_apt.specs.Instruction.{AssortmentParts};
+ghost use Rattle.buck_apt_instruction.specs.Instruction.{AssortmentParts};
 ghost use Rattle.buck_book_postings.specs.Counts.{AreClassCounts};
 ghost use Rattle.buck_book_postings.specs.Posting.{targets_of};
 ghost use Rattle.buck_book_postings.specs.Degree.{part_of};

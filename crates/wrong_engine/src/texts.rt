@@ -5,7 +5,7 @@ ghost use Rattle.std.specs.List.{flat_map};
 ghost use Rattle.buckfleet_engine_text.specs.Bucking.{CutStem, IsBucking, base_sheet, logs_of, stem_lines, total_line, worth_of_all};
 ghost use Rattle.wrong_engine.specs.Texts.{butt_lines, half_lines, last_total, text_with};
 
-use buck_apt::Instruction;
+use buck_apt_instruction::Instruction;
 use buck_stem::Stem;
 use buckfleet_engine_text::buck_text;
 use std::alloc::Global;

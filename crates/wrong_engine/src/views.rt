@@ -1,8 +1,8 @@
 //! Wrong bodies of what shows a journal.
 ghost use Rattle.std.specs.Prelude.{◌≡◌, ◌≢◌, ◌+◌, ◌<◌, [], ◌∷◌, IfSome, None, Ok, length, slice_index_or};
-ghost use Rattle.buck_apt.specs.Instruction.{InstructionParts};
+ghost use Rattle.buck_apt_instruction.specs.Instruction.{InstructionParts};
 ghost use Rattle.buck_apt.specs.Apt.{apt_of};
-ghost use Rattle.buck_apt.specs.Settings.{own_numbers};
+ghost use Rattle.buck_apt_instruction.specs.Settings.{own_numbers};
 ghost use Rattle.buck_book_postings.specs.History.{IsLawful};
 ghost use Rattle.buck_book_journal.specs.Journal.{JournalParts, history_of};
 ghost use Rattle.buck_book_text.specs.reading.Journal.{journal_of};

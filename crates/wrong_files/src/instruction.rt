@@ -1,9 +1,10 @@
 //! Wrong bodies of instructions and their reader.
 
 ghost use Rattle.std.specs.Prelude.{◌≡◌, ◌≢◌, ◌<◌, ◌+◌, ◌*◌, length, slice_get, slice_index, sum};
-ghost use Rattle.buck_apt.specs.Instruction.{IsClass, classes, classes_before, place_in};
+ghost use Rattle.buck_apt_instruction.specs.Instruction.{IsClass, classes, classes_before, place_in};
 
-use buck_apt::{AptFault, Assortment, Class, Instruction, instruction_text, read_apt};
+use buck_apt::{AptFault, instruction_text, read_apt};
+use buck_apt_instruction::{Assortment, Class, Instruction};
 use std::alloc::Global;
 
 /// A range is looked at before items that stand twice.

@@ -1,6 +1,7 @@
 //! Wrong bodies of the readers of files, each proved wrong by a caller.
 #![tactic(auto)]
 
+pub mod draft;
 pub mod instruction;
 pub mod notes;
 pub mod record;

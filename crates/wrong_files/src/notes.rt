@@ -2,7 +2,7 @@
 ghost use Rattle.std.specs.Prelude.{◌≡◌, slice_index, true, false};
 ghost use Rattle.buckfleet_notes.specs.Notes.{has_species, is_namesake};
 
-use buck_apt::Instruction;
+use buck_apt_instruction::Instruction;
 use buckfleet_notes::{first_again, first_namesake, first_untaken, is_too_long, is_unsteered};
 use std::alloc::Global;
 

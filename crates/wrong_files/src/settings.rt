@@ -1,7 +1,7 @@
 //! Wrong answers about numbers that a run puts in the place of an instruction's own.
 ghost use Rattle.std.specs.Prelude.{◌≡◌, ◌≢◌};
 
-use buck_apt::{Instruction, Settings};
+use buck_apt_instruction::{Instruction, Settings};
 
 /// A period one longer than the longest is taken.
 pub fn period_1001_taken() {

@@ -6,7 +6,7 @@ ghost use Rattle.buck_fleet.specs.Crew.{IsCrew, parts_of};
 ghost use Rattle.buck_fleet.specs.Closed.{kept_by};
 ghost use Rattle.buck_book_postings.specs.Replies.{replies_of};
 
-use buck_apt::Instruction;
+use buck_apt_instruction::Instruction;
 use buck_book_postings::Posting;
 use buck_fleet::{CloseFault, Closed, Fleet, Seat};
 use std::sync::ledger::Ledger;

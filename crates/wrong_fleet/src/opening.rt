@@ -1,7 +1,7 @@
 //! Wrong bodies of new fleets.
 ghost use Rattle.std.specs.Prelude.{◌≡◌};
 
-use buck_apt::Instruction;
+use buck_apt_instruction::Instruction;
 use buck_fleet::{Fleet, OpenFault, Seat};
 use buck_rule::{Rule, Standing};
 use std::alloc::Global;

@@ -2,7 +2,7 @@
 ghost use Rattle.std.specs.Prelude.{◌≤◌, length};
 ghost use Rattle.buck_rule.specs.Stored.{Answers};
 
-use buck_apt::Instruction;
+use buck_apt_instruction::Instruction;
 use buck_book_postings::{CutFault, Posting};
 use buck_fleet_round_robin::cut_in_turn;
 use buck_rule::{Rule, Standing};

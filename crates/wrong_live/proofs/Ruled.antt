@@ -1,8 +1,8 @@
 -- Runs of requests by a rule, and what their statuses say.
 use Rattle.std.proofs.Common.{◌≡◌, ◌≢◌, ℕ, List, [], Option, Some, None, Result, Ok, Err, inl, inr, sym, ap, subst, ◌∙◌, arith}
 use Rattle.std.specs.Result.{result_and}
-use Rattle.buck_apt.specs.Instruction.{InstructionParts}
-use Rattle.buck_apt.specs.Settings.{with_settings}
+use Rattle.buck_apt_instruction.specs.Instruction.{InstructionParts}
+use Rattle.buck_apt_instruction.specs.Settings.{with_settings}
 use Rattle.buck_rule.specs.declared.named.NamedRule.{NamedRule}
 use Rattle.buck_book_postings.specs.History.{HistoryParts}
 use Rattle.buck_book_postings.specs.Pricing.{Calls}

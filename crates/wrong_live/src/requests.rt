@@ -2,7 +2,7 @@
 #![tactic(auto, unfolding(buck_record::specs::bytes::Record::numbers_of, buck_record::specs::bytes::Record::number_at_most, buck_record::specs::bytes::Record::item_of, buck_record::specs::bytes::Record::items_of, buck_record::specs::bytes::White::words, buck_record::specs::bytes::White::first_word, buck_record::specs::bytes::White::after_word, buck_record::specs::bytes::White::trim_start, buck_record::specs::bytes::White::trim_end, buck_record::specs::Reading::each_from, buck_record::specs::checking::Table::rest_in, buck_record::specs::checking::Rules::numbers_in, buckfleet_live::specs::Request::request_of, buckfleet_live::specs::Request::requested, buckfleet_live::specs::Request::present, buckfleet_live::specs::Request::single, buckfleet_live::specs::Request::harvester_in, buckfleet_live::specs::Request::asked_in))]
 
 ghost use Rattle.std.specs.Prelude.{◌≡◌, ◌≢◌, [], Some, Ok};
-ghost use Rattle.buck_apt.specs.Instruction.{InstructionParts};
+ghost use Rattle.buck_apt_instruction.specs.Instruction.{InstructionParts};
 ghost use Rattle.buck_rule.specs.Stored.{Answers};
 ghost use Rattle.buck_rule.specs.declared.named.NamedRule.TheVariants.{Step};
 ghost use Rattle.buck_book_postings.specs.History.{HistoryParts};
@@ -12,7 +12,7 @@ ghost use Rattle.buckfleet_engine_files.specs.Ruled.{FollowsRule};
 ghost use Rattle.buck_book_cutter.specs.Cut.{opening};
 ghost use Rattle.buckfleet_live.specs.Live.{IsLiveRun};
 
-use buck_apt::Instruction;
+use buck_apt_instruction::Instruction;
 use buck_rule::{Rule, Standing};
 use buckfleet_engine::conclude;
 use buckfleet_engine_files::{EngineFault, Make, Nobody, Open};

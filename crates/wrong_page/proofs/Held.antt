@@ -3,8 +3,8 @@ use Rattle.std.proofs.Common.{◌≡◌, ◌≢◌, ◌<◌, ◌≤◌, List, []
 use Rattle.std.specs.Prelude.{sum_by, None}
 use Rattle.std.specs.BTreeMap.{get}
 use Rattle.std.specs.Ordering.{nat_cmp}
-use Rattle.buck_apt.specs.Grades.{grade_free}
-use Rattle.buck_apt.specs.Instruction.{InstructionParts}
+use Rattle.buck_apt_instruction.specs.Grades.{grade_free}
+use Rattle.buck_apt_instruction.specs.Instruction.{InstructionParts}
 use Rattle.buck_dp.specs.Best.{IsAdmissible, cutting_worth}
 use Rattle.buck_value.specs.declared.log.Log.{Log}
 use Rattle.buck_book_postings.specs.declared.posting.Posting.{Posting}

@@ -6,7 +6,7 @@ use Rattle.std.specs.Option.{is_some}
 use Rattle.std.proofs.lemmas.Bool.{cases_lt, ltb-true}
 use Rattle.std.proofs.lemmas.Option.{slice_get_read}
 use Rattle.std.proofs.lemmas.List.Sums.{sum_by-cons}
-use Rattle.buck_apt.specs.Instruction.{InstructionParts, classes, index_of}
+use Rattle.buck_apt_instruction.specs.Instruction.{InstructionParts, classes, index_of}
 use Rattle.buck_value.specs.Sheet.{SheetParts, price_of}
 use Rattle.buck_value.specs.Allowed.{class_of}
 use Rattle.buck_book_postings.specs.declared.posting.Posting.{Posting}

@@ -5,7 +5,7 @@ use Rattle.std.proofs.Math.Nat.{mul-le-mul_right}
 use Rattle.std.proofs.lemmas.Bool.{cases_lt}
 use Rattle.std.proofs.lemmas.Nat.{div-add-mod', le-div}
 use Rattle.std.proofs.lemmas.List.Elements.{All-head}
-use Rattle.buck_apt.specs.Instruction.{InstructionParts}
+use Rattle.buck_apt_instruction.specs.Instruction.{InstructionParts}
 use Rattle.buck_page_text.specs.Words.{half_up}
 use Rattle.buck_page_figures.specs.Lacking.{AreMostFirst, ComesBefore, EachOnce, IsLackOf, gap_of, names}
 use Rattle.buck_page_figures.specs.declared.lack.Lack.{Lack}

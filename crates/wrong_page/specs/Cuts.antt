@@ -1,8 +1,8 @@
 -- Postings for which wrong figures differ from the right ones.
 use Rattle.std.specs.Prelude.{◌≡◌, ◌≢◌, ℕ, ◌<◌, List, [], ◌∷◌, slice_index}
-use Rattle.buck_apt.specs.declared.class.Class.{Class}
-use Rattle.buck_apt.specs.Instruction.{InstructionParts, index_of}
-use Rattle.buck_apt.specs.Grades.{grade_free}
+use Rattle.buck_apt_instruction.specs.declared.class.Class.{Class}
+use Rattle.buck_apt_instruction.specs.Instruction.{InstructionParts, index_of}
+use Rattle.buck_apt_instruction.specs.Grades.{grade_free}
 use Rattle.buck_stem.specs.Stem.{stem_length}
 use Rattle.buck_value.specs.declared.log.Log.{Log}
 use Rattle.buck_value.specs.Sheet.{price_of}

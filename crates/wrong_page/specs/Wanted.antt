@@ -1,6 +1,6 @@
 -- Targets and counts for which wrong degrees and lists differ from the right ones.
 use Rattle.std.specs.Prelude.{◌≡◌, ℕ, ◌<◌, List, [], ◌∷◌, length, slice_get, Some}
-use Rattle.buck_apt.specs.Instruction.{AssortmentParts, InstructionParts, classes_of}
+use Rattle.buck_apt_instruction.specs.Instruction.{AssortmentParts, InstructionParts, classes_of}
 use Rattle.buck_book_postings.specs.Degree.{part_of}
 use Rattle.buck_page_figures.specs.Lacking.{IsShort}
 

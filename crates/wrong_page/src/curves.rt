@@ -5,7 +5,7 @@ ghost use Rattle.buck_book_journal.specs.Journal.{history_of};
 ghost use Rattle.buck_page_figures.specs.Figures.{base_sheet};
 ghost use Rattle.wrong_page.specs.Cuts.{IsAfterDemand};
 
-use buck_apt::Instruction;
+use buck_apt_instruction::Instruction;
 use buck_book_journal::Journal;
 use buck_book_postings::{Demand, Entry, Posting};
 use buck_dp::Planner;

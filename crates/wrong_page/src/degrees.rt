@@ -1,9 +1,9 @@
 //! Wrong degrees of apportionment, taken apart.
 ghost use Rattle.std.specs.Prelude.{◌≡◌, ◌<◌, length};
-ghost use Rattle.buck_apt.specs.Instruction.{classes};
+ghost use Rattle.buck_apt_instruction.specs.Instruction.{classes};
 ghost use Rattle.wrong_page.specs.Wanted.{AreTwoOfOne};
 
-use buck_apt::Instruction;
+use buck_apt_instruction::Instruction;
 use buck_page_figures::degrees_at;
 
 /// The degree of lengths is taken for that of diameters.

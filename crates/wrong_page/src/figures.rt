@@ -1,6 +1,6 @@
 //! Wrong figures of a journal.
 ghost use Rattle.std.specs.Prelude.{◌≡◌, ◌≢◌, ◌<◌, [], ◌∷◌, length, slice_index};
-ghost use Rattle.buck_apt.specs.Instruction.{IsClass};
+ghost use Rattle.buck_apt_instruction.specs.Instruction.{IsClass};
 ghost use Rattle.buck_dp.specs.Best.{cutting_worth};
 ghost use Rattle.buck_book_postings.specs.Counts.{assortment_logs};
 ghost use Rattle.buck_book_postings.specs.History.{IsLawful, prices_at};
@@ -8,7 +8,7 @@ ghost use Rattle.buck_book_journal.specs.Journal.{history_of};
 ghost use Rattle.buck_page_figures.specs.Figures.{base_sheet};
 ghost use Rattle.wrong_page.specs.Cuts.{AreAsLong, AreOfTwoHarvesters, IsAfterDemand, IsOneCutInto, IsOutvalued};
 
-use buck_apt::{Class, Instruction};
+use buck_apt_instruction::{Class, Instruction};
 use buck_book_journal::Journal;
 use buck_book_postings::{Demand, Entry, Posting};
 use buck_dp::Planner;

@@ -1,12 +1,12 @@
 //! Wrong worths of stems without grades.
 ghost use Rattle.std.specs.Prelude.{◌≡◌, Some, [], ◌∷◌, length, slice_get};
-ghost use Rattle.buck_apt.specs.Instruction.{AssortmentParts};
+ghost use Rattle.buck_apt_instruction.specs.Instruction.{AssortmentParts};
 ghost use Rattle.buck_book_postings.specs.History.{IsLawful};
 ghost use Rattle.buck_book_journal.specs.Journal.{history_of};
 ghost use Rattle.buck_page_figures.specs.Figures.{base_sheet};
 ghost use Rattle.wrong_page.specs.Cuts.{IsHeldByGrades};
 
-use buck_apt::Instruction;
+use buck_apt_instruction::Instruction;
 use buck_book_journal::Journal;
 use buck_book_postings::{Entry, Posting};
 use buck_dp::Planner;

@@ -8,7 +8,7 @@ ghost use Rattle.buck_page_figures.specs.Journals.{postings_of};
 ghost use Rattle.buck_page_figures.specs.Shown.{IsShown};
 ghost use Rattle.wrong_page.specs.Cuts.{AreADayEach, AreOfStemsEach};
 
-use buck_apt::Instruction;
+use buck_apt_instruction::Instruction;
 use buck_book_journal::Journal;
 use buck_dp::Planner;
 use buck_page_figures::{Figures, Place, cut_at, figures_of, place_of};

@@ -2,7 +2,7 @@
 ghost use Rattle.std.specs.Prelude.{◌≡◌, ◌≢◌, ◌<◌, ◌≤◌, ◌+◌, length, slice_index};
 ghost use Rattle.buck_book_postings.specs.History.{version_of};
 
-use buck_apt::Instruction;
+use buck_apt_instruction::Instruction;
 use buck_book_postings::{CutFault, DemandRefusal};
 use buck_c_session::{FellFault, Felled, KeptBook, Zone};
 use buck_rule::NamedRule;

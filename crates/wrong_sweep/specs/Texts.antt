@@ -1,6 +1,6 @@
 -- The texts that wrong bodies would print of runs.
 use Rattle.std.specs.Prelude.{◌≡◌, ◌++◌, ℕ, List}
-use Rattle.buck_apt.specs.Settings.{own_numbers}
+use Rattle.buck_apt_instruction.specs.Settings.{own_numbers}
 use Rattle.buck_rule.specs.declared.named.NamedRule.{NamedRule}
 use Rattle.buckfleet_tasks.specs.declared.combination.Combination.{Combination}
 

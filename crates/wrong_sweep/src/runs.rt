@@ -1,5 +1,5 @@
 //! Wrong bodies of which runs a table has.
-use buck_apt::Instruction;
+use buck_apt_instruction::Instruction;
 use buck_rule::NamedRule;
 use buckfleet_trial_sweep::combinations;
 use std::alloc::Global;

@@ -2,8 +2,8 @@
 use Rattle.std.proofs.Common.{◌≡◌, ◌≢◌, ◌<◌, ℕ, List, [], ◌∷◌, ◌++◌, ap, append_assoc, append-nil, codes, inl, inr, Option, None, Some, Result, Ok, Err, length, cond, Bool, true, false, refl, sym, subst, arith, ◌==◌, ◌+◌, ◌∙◌}
 use Rattle.std.specs.Result.{is_err}
 use Rattle.buck_apt.specs.Apt.{apt_of}
-use Rattle.buck_apt.specs.Instruction.{InstructionParts}
-use Rattle.buck_apt.specs.Settings.{SettingsParts, with_settings}
+use Rattle.buck_apt_instruction.specs.Instruction.{InstructionParts}
+use Rattle.buck_apt_instruction.specs.Settings.{SettingsParts, with_settings}
 use Rattle.buck_book_postings.specs.History.{IsLawful}
 use Rattle.buck_book_journal.specs.Journal.{JournalParts, history_of}
 use Rattle.buck_book_text.specs.reading.Journal.{journal_of}

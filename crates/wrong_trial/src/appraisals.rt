@@ -1,6 +1,6 @@
 //! Wrong bodies of appraisals of journals under an owner's instruction.
 ghost use Rattle.std.specs.Prelude.{◌≡◌, ◌≢◌, ◌≤◌, List, [], All, length, sum_by};
-ghost use Rattle.buck_apt.specs.Instruction.{InstructionParts};
+ghost use Rattle.buck_apt_instruction.specs.Instruction.{InstructionParts};
 ghost use Rattle.buck_book_postings.specs.Counts.{assortment_logs_in};
 ghost use Rattle.buck_book_postings.specs.History.{IsLawful};
 ghost use Rattle.buck_book_postings.specs.declared.posting.Posting.{Posting};
@@ -12,7 +12,7 @@ ghost use Rattle.buck_page_figures.specs.Owns.{own_of};
 ghost use Rattle.buckfleet_terms_files.specs.Own.{HasShapeOf};
 ghost use Rattle.buckfleet_proceeds.specs.Paid.{AreAllBought};
 
-use buck_apt::Instruction;
+use buck_apt_instruction::Instruction;
 use buck_book_journal::Journal;
 use buckfleet_proceeds::appraise;
 use std::alloc::Global;

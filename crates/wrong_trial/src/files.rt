@@ -1,11 +1,11 @@
 //! Wrong bodies of files that are read beside an instruction, and of what is said of them.
 ghost use Rattle.std.specs.Prelude.{◌≡◌, IfSome, List, Ok, Some, ℕ};
 ghost use Rattle.buck_apt.specs.Apt.{apt_of};
-ghost use Rattle.buck_apt.specs.Instruction.{InstructionParts};
+ghost use Rattle.buck_apt_instruction.specs.Instruction.{InstructionParts};
 ghost use Rattle.buckfleet_terms_files.specs.Targets.{HasTargets};
 ghost use Rattle.buckfleet_trial.specs.Inputs.{held_with};
 
-use buck_apt::Instruction;
+use buck_apt_instruction::Instruction;
 use buckfleet_engine_files::{EngineFault, Nobody, Open};
 use buckfleet_terms_files::{
     TargetsFault, TermsFault, conclude_terms, open_last, open_more, read_own, read_wanted, status,

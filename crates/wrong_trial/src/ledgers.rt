@@ -1,8 +1,8 @@
 //! Wrong bodies of whole runs over journals: of appraisals and of comparisons.
 ghost use Rattle.std.specs.Prelude.{◌≡◌, ◌≢◌, ◌<◌, List, [], ◌∷◌, IfSome, None, Some, Ok, codes, length, map};
 ghost use Rattle.buck_apt.specs.Apt.{apt_of};
-ghost use Rattle.buck_apt.specs.Instruction.{InstructionParts};
-ghost use Rattle.buck_apt.specs.Settings.{with_settings};
+ghost use Rattle.buck_apt_instruction.specs.Instruction.{InstructionParts};
+ghost use Rattle.buck_apt_instruction.specs.Settings.{with_settings};
 ghost use Rattle.buck_book_postings.specs.History.{IsLawful};
 ghost use Rattle.buck_book_postings.specs.declared.posting.TheConstants.{MOST_POSTINGS};
 ghost use Rattle.buck_book_journal.specs.Journal.{JournalParts, history_of};

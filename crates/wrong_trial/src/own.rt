@@ -1,7 +1,7 @@
 //! Wrong bodies of the comparison of two instructions.
 ghost use Rattle.std.specs.Prelude.{◌≡◌};
 
-use buck_apt::{Instruction, Settings};
+use buck_apt_instruction::{Instruction, Settings};
 use buckfleet_terms_files::{OwnFault, shape_fault};
 
 /// A trim that differs is accepted.

@@ -1,7 +1,7 @@
 //! Wrong bodies of whole runs of trials, appraisals and comparisons: which files are opened, and what is written then.
 ghost use Rattle.std.specs.Prelude.{◌≡◌, length, None};
 
-use buck_apt::Settings;
+use buck_apt_instruction::Settings;
 use buckfleet_engine_files::{Nobody, Open};
 use buckfleet_proceeds::{AppraiseTask, CompareTask, serve_appraise, serve_compare};
 use buckfleet_trial::{TrialTask, serve_trial};

@@ -3,7 +3,7 @@
 
 ghost use Rattle.buck_book_postings.specs.Targets.{IsLowSumAt};
 
-use buck_apt::Instruction;
+use buck_apt_instruction::Instruction;
 use buckfleet_terms_files::{TargetsFault, all_numbers, targets_in};
 use std::alloc::Global;
 

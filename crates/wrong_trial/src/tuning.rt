@@ -1,7 +1,7 @@
 //! Wrong bodies of prices that are tuned, and of the instruction that is printed.
 ghost use Rattle.std.specs.Prelude.{◌≡◌, ◌≢◌, ◌∷◌, [], Ok, IfSome, Some, None, map, slice_index};
 ghost use Rattle.buck_apt.specs.Apt.{apt_of};
-ghost use Rattle.buck_apt.specs.Instruction.{InstructionParts};
+ghost use Rattle.buck_apt_instruction.specs.Instruction.{InstructionParts};
 ghost use Rattle.buck_value.specs.Sheet.{base_prices};
 ghost use Rattle.buck_book_postings.specs.History.{prices_at};
 ghost use Rattle.buck_book_postings.specs.Posting.{planned_version};

@@ -3,7 +3,7 @@ ghost use Rattle.std.specs.Prelude.{◌≡◌, ◌≢◌, []};
 ghost use Rattle.buck_book_postings.specs.History.{version_of};
 ghost use Rattle.buck_fleet_world.specs.World.{IsHarvester, at};
 
-use buck_apt::Instruction;
+use buck_apt_instruction::Instruction;
 use buck_fleet_world::{Memory, Stage, World};
 use buck_rule::{Rule, Standing};
 use std::alloc::Global;

@@ -3,8 +3,8 @@ use Rattle.std.specs.Prelude.{◌≡◌, ℕ, ◌<◌, ◌≤◌, List, length, 
 use Rattle.std.specs.Fn.{FnReturnsAt}
 use denote.Ref.{Bor}
 use denote.Param.Members.{Shared}
-use Rattle.buck_apt.specs.declared.class.Class.{Class}
-use Rattle.buck_apt.specs.Instruction.{InstructionParts, AssortmentParts, IsInstruction, IsClass, classes, classes_before, index_of}
+use Rattle.buck_apt_instruction.specs.declared.class.Class.{Class}
+use Rattle.buck_apt_instruction.specs.Instruction.{InstructionParts, AssortmentParts, IsInstruction, IsClass, classes, classes_before, index_of}
 use Rattle.buck_rule.specs.declared.standing.Standing.{Standing}
 use Rattle.buck_rule.specs.Standing.{IsInRange}
 use Rattle.buck_rule.specs.Relation.{Meets}

@@ -31,7 +31,7 @@ use Rattle.buck_record.specs.bytes.Record.{items_of, numbers_of, number_of}
 use Rattle.buck_record.specs.checking.Table.{is_at}
 use Rattle.buck_record.specs.checking.Check.{◌>>=◌, check}
 use Rattle.buck_record.specs.checking.Rules.{slot, file_slot, within, all_within, one_to}
-use Rattle.buck_apt.specs.declared.slots.TheConstants.{LENGTHS, TARGETS}
+use Rattle.buck_apt_instruction.specs.declared.slots.TheConstants.{LENGTHS, TARGETS}
 use Rattle.buck_stem.specs.declared.file.slots.TheConstants.{SPECIES, SAMPLES, MOST_SAMPLES, STARTS, GRADES, MOST_ZONES}
 use Rattle.buck_stem.specs.Stem.{StemParts, stem_of}
 use Rattle.buck_stem.specs.file.Stm.{zones_of}

@@ -5,7 +5,7 @@ ghost use Rattle.buck_book_journal.specs.declared.journal_fault.JournalFault.The
 ghost use Rattle.buck_book_text.specs.inner.Limits.{AreSamples, AreZones};
 ghost use Rattle.buck_book_text.specs.reading.Journal.{says, samples_form, is_zone, zones_form, is_log, logs_form};
 
-use buck_apt::slots::LENGTHS;
+use buck_apt_instruction::slots::LENGTHS;
 use buck_book_journal::JournalFault;
 use buck_record::check::check;
 use buck_record::rules::{all_within, one_to};

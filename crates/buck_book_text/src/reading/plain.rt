@@ -9,7 +9,7 @@ ghost use Rattle.buck_book_text.specs.inner.Plain.{LeadsNumbers, LeadsWorth, Lea
 use crate::reading::items::{call_in, check_list, head_in};
 use crate::reading::parts::{logs_in, samples_in, zones_in};
 use crate::reading::postings::{cut_of, demand_of};
-use buck_apt::slots::TARGETS;
+use buck_apt_instruction::slots::TARGETS;
 use buck_book_journal::slots::{
     CUT, CUT_SAMPLES, CUT_ZONES, DEMAND, DEMAND_TARGETS, HEAD, LOGS, SHEET, WORTH,
 };

@@ -13,7 +13,7 @@ use crate::reading::items::{
     call_at, check_list, follows, head_in, is_at, is_first, numbers_at, worth_at,
 };
 use crate::reading::parts::{logs_in, samples_in, zones_in};
-use buck_apt::slots::TARGETS;
+use buck_apt_instruction::slots::TARGETS;
 use buck_book_journal::JournalFault;
 use buck_book_journal::slots::{
     CUT, CUT_SAMPLES, CUT_ZONES, DEMAND, DEMAND_TARGETS, HEAD, LOGS, SHEET,

@@ -1,6 +1,6 @@
 -- The words that the definitions of this crate's own functions name, from where each is declared.
-pub use Rattle.buck_apt.specs.Instruction.{AssortmentParts, InstructionParts, classes, index_of}
-pub use Rattle.buck_apt.specs.declared.class.Class.{Class}
+pub use Rattle.buck_apt_instruction.specs.Instruction.{AssortmentParts, InstructionParts, classes, index_of}
+pub use Rattle.buck_apt_instruction.specs.declared.class.Class.{Class}
 pub use Rattle.buck_dp.specs.declared.bid.TheConstants.{HIGHEST_RANK}
 pub use Rattle.buck_dp.specs.declared.sheet_cache.RowEntry.{RowEntry}
 pub use Rattle.buck_dp.specs.declared.sheet_cache.CandidateList.{CandidateList}

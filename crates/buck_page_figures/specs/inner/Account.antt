@@ -1,6 +1,6 @@
 -- What some postings of a journal come to.
 use Rattle.std.specs.Prelude.{◌≡◌, ℕ, ◌*◌, ◌<◌, List, [], ◌∷◌, ◌++◌, length}
-use Rattle.buck_apt.specs.Instruction.{InstructionParts}
+use Rattle.buck_apt_instruction.specs.Instruction.{InstructionParts}
 use Rattle.buck_book_postings.specs.declared.posting.Posting.{Posting}
 use Rattle.buck_page_figures.specs.Figures.{AreUnsteered}
 use Rattle.buck_page_figures.specs.Assorted.{AreParts}

@@ -1,6 +1,6 @@
 -- A way through the postings of some journals.
 use Rattle.std.specs.Prelude.{◌≡◌, ℕ, ◌+◌, List, ◌++◌, length, take, slice_get, Some}
-use Rattle.buck_apt.specs.Instruction.{InstructionParts, classes}
+use Rattle.buck_apt_instruction.specs.Instruction.{InstructionParts, classes}
 use Rattle.buck_book_postings.specs.declared.posting.Posting.{Posting}
 use Rattle.buck_book_postings.specs.Posting.{targets_of}
 use Rattle.buck_book_postings.specs.Walk.{walk_of, IsCountable}

@@ -1,7 +1,7 @@
 -- The classes that lack logs among those before a place.
 use Rattle.std.specs.Prelude.{◌≡◌, ℕ, ◌<◌, ◌⊎◌, List, All, count_by, slice_get, Some}
 use Rattle.std.specs.List.Sorted.{IsNonDecreasingBy}
-use Rattle.buck_apt.specs.Instruction.{InstructionParts, AssortmentParts, classes_of}
+use Rattle.buck_apt_instruction.specs.Instruction.{InstructionParts, AssortmentParts, classes_of}
 use Rattle.buck_book_postings.specs.Degree.{part_of}
 use Rattle.buck_page_figures.specs.Lacking.{IsLackOf, IsShort, names, place_of}
 use Rattle.buck_page_figures.specs.declared.lack.Lack.{Lack}

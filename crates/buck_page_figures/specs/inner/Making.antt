@@ -1,6 +1,6 @@
 -- How the figures of some journals are made.
 use Rattle.std.specs.Prelude.{◌≡◌, ◌↔◌, ℕ, ◌+◌, ◌<◌, IsTrue, List, length, slice_get, Some}
-use Rattle.buck_apt.specs.Instruction.{InstructionParts}
+use Rattle.buck_apt_instruction.specs.Instruction.{InstructionParts}
 use Rattle.buck_book_postings.specs.declared.posting.Posting.{Posting}
 use Rattle.buck_book_postings.specs.Posting.{ends_of}
 use Rattle.buck_book_postings.specs.History.{prices_at}

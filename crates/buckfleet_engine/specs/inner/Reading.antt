@@ -1,6 +1,6 @@
 -- What is read of a file's bytes.
 use Rattle.std.specs.Prelude.{◌≡◌, ◌⊎◌, List, ℕ, Result, Ok, Err}
-use Rattle.buck_apt.specs.Instruction.{InstructionParts}
+use Rattle.buck_apt_instruction.specs.Instruction.{InstructionParts}
 use Rattle.buck_apt.specs.Apt.{apt_of}
 use Rattle.buck_stem.specs.Stem.{StemParts}
 use Rattle.buck_stem.specs.file.Stm.{stm_of}

@@ -1,6 +1,6 @@
 -- What a check of a journal and a report of it answer.
 use Rattle.std.specs.Prelude.{◌⊎◌, ℕ, List, Option, Result, Ok, Err}
-use Rattle.buck_apt.specs.Instruction.{InstructionParts}
+use Rattle.buck_apt_instruction.specs.Instruction.{InstructionParts}
 use Rattle.buck_apt.specs.Apt.{apt_of}
 use Rattle.buck_book_postings.specs.History.{IsLawful}
 use Rattle.buck_book_journal.specs.Journal.{JournalParts, history_of}

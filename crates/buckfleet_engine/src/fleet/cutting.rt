@@ -6,7 +6,7 @@ ghost use Rattle.buck_fleet.specs.Closed.{IsOneHistory};
 ghost use Rattle.buckfleet_engine_input.specs.Harvest.{IsCuttingFault};
 ghost use Rattle.buckfleet_engine.specs.inner.Fleet.{HasCutLists};
 
-use buck_apt::Instruction;
+use buck_apt_instruction::Instruction;
 use buck_book_postings::{MOST_POSTINGS, Plan};
 use buck_fleet::{Closed, Fleet, Gate, OpenFault, RunFault, Seat, run_fleet};
 use buck_rule::{Rule, Standing};

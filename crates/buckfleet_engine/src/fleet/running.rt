@@ -12,7 +12,7 @@ ghost use Rattle.buckfleet_engine_input.specs.Harvest.{AreNoSeats, IsFleetFault,
 
 use crate::fleet::cutting::cut_lists;
 use crate::fleet::writing::{write_journal_and_report, write_report};
-use buck_apt::Settings;
+use buck_apt_instruction::Settings;
 use buck_fleet::Closed;
 use buck_rule::{Rule, Standing};
 use buckfleet_engine_files::{EngineFault, Nobody, Onlooker, SeveralThreads};

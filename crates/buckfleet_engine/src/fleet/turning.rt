@@ -16,7 +16,7 @@ ghost use Rattle.buckfleet_engine.specs.inner.Fleet.{HasCutLists};
 ghost use Rattle.buck_book_postings.specs.declared.posting.TheConstants.{MOST_POSTINGS};
 
 use crate::fleet::writing::{write_journal_and_report, write_report};
-use buck_apt::{Instruction, Settings};
+use buck_apt_instruction::{Instruction, Settings};
 use buck_book_postings::{CutFault, Parts};
 use buck_fleet_round_robin::cut_in_turn;
 use buck_rule::{Rule, Standing};

@@ -3,7 +3,7 @@ ghost use Rattle.std.specs.Prelude.{◌≡◌, ◌≢◌, ◌≤◌, length, IfO
 ghost use Rattle.buck_record.specs.Reading.{listed};
 ghost use Rattle.buck_book_postings.specs.Walk.{walk_of};
 ghost use Rattle.buck_book_postings.specs.History.{IsLawful, in_force};
-ghost use Rattle.buck_apt.specs.Instruction.{classes};
+ghost use Rattle.buck_apt_instruction.specs.Instruction.{classes};
 ghost use Rattle.buck_book_journal.specs.Journal.{history_of};
 ghost use Rattle.buckfleet_engine_files.specs.declared.fault.EngineFault.TheVariants.{Write};
 ghost use Rattle.buckfleet_engine.specs.run.Checking.{AnswersJournal, AnswersReplay, AnswersReport, IsJournalReport};
@@ -11,7 +11,7 @@ ghost use Rattle.buckfleet_engine_files.specs.Reading.{IfStopped, apt_with};
 ghost use Rattle.buckfleet_engine_files.specs.Written.{WritesText};
 ghost use Rattle.buck_book_postings.specs.declared.posting.TheConstants.{MOST_POSTINGS};
 
-use buck_apt::{Instruction, Settings};
+use buck_apt_instruction::{Instruction, Settings};
 use buck_book_journal::{Journal, ReplayFault};
 use buck_book_postings::Walk;
 use buck_book_replay::replay_to_end;

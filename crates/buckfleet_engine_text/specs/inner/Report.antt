@@ -1,7 +1,7 @@
 -- What the lines of a report are put from.
 use Rattle.std.specs.Prelude.{◌≡◌, ◌<◌, length, slice_get, Some}
-use Rattle.buck_apt.specs.declared.class.Class.{Class}
-use Rattle.buck_apt.specs.Instruction.{InstructionParts, AssortmentParts, classes}
+use Rattle.buck_apt_instruction.specs.declared.class.Class.{Class}
+use Rattle.buck_apt_instruction.specs.Instruction.{InstructionParts, AssortmentParts, classes}
 use Rattle.buck_book_postings.specs.Counts.{AreClassCounts}
 use Rattle.buck_book_postings.specs.History.{HistoryParts}
 use Rattle.buckfleet_engine_text.specs.Report.{EndingParts, ending_of}

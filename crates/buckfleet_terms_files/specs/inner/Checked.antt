@@ -1,6 +1,6 @@
 -- Why targets, one for each class, may not come into force.
 use Rattle.std.specs.Prelude.{ℕ, List}
-use Rattle.buck_apt.specs.Instruction.{InstructionParts}
+use Rattle.buck_apt_instruction.specs.Instruction.{InstructionParts}
 use Rattle.buck_book_postings.specs.Targets.{IsTargetsFault}
 use Rattle.buck_book_postings.specs.declared.targets.TargetsFault.TheVariants.{Range as TooGreat, Sum as TooMany}
 use Rattle.buckfleet_terms_files.specs.declared.fault.TargetsFault.{TargetsFault}

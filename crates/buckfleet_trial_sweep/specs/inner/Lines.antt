@@ -2,7 +2,7 @@
 use Rattle.std.specs.Prelude.{◌≡◌, ◌++◌, ℕ, List, [], ◌∷◌, length, slice_get, nat_le, cond, Option, Some, None, Result, Ok, Err, codes}
 use Rattle.std.specs.declared.vec.Vec.{Vec}
 use Rattle.std.specs.declared.alloc.Global.{Global}
-use Rattle.buck_apt.specs.Instruction.{InstructionParts}
+use Rattle.buck_apt_instruction.specs.Instruction.{InstructionParts}
 use Rattle.buck_page_figures.specs.Degrees.{AreDegreesBy}
 use Rattle.buck_page_figures.specs.declared.degrees.Degrees.{Degrees}
 use Rattle.buck_book_journal.specs.Journal.{JournalParts}

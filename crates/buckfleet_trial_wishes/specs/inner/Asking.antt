@@ -3,8 +3,8 @@ use Rattle.std.specs.Prelude.{◌≡◌, ◌<◌, ◌≤◌, ◌+◌, ◌*◌, �
 use Rattle.std.specs.List.{AllByRecursion, AllZip, Contains}
 use Rattle.std.specs.declared.vec.Vec.{Vec}
 use Rattle.std.specs.declared.alloc.Global.{Global}
-use Rattle.buck_apt.specs.Instruction.{InstructionParts}
-use Rattle.buck_apt.specs.Wanted.{MayBeWanted}
+use Rattle.buck_apt_instruction.specs.Instruction.{InstructionParts}
+use Rattle.buck_apt_instruction.specs.Wanted.{MayBeWanted}
 use Rattle.buck_book_postings.specs.Posting.{opening_targets}
 use Rattle.buckfleet_engine_files.specs.declared.fault.EngineFault.{EngineFault}
 use Rattle.buckfleet_trial_sweep.specs.Runs.{IsStop}

@@ -1,6 +1,6 @@
 use Rattle.std.proofs.Common.{refl, ap, ◌∙◌, arith}
-use Rattle.buck_apt.specs.declared.class.Class.{Class}
-use Rattle.buck_apt.specs.Instruction.{index_of}
+use Rattle.buck_apt_instruction.specs.declared.class.Class.{Class}
+use Rattle.buck_apt_instruction.specs.Instruction.{index_of}
 use Rattle.buck_value.specs.Sheet.{price_of}
 use Rattle.buck_value.proofs.Prices.{price-le}
 use Rattle.buck_c_calls.proofs.Logs.{class_is, is_class, low, worth_is}

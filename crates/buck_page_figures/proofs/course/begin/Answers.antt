@@ -1,6 +1,6 @@
 use Rattle.std.proofs.Common.{◌≡◌, ◌∙◌, [], length, ap, subst, sym, refl, rules}
 use Rattle.std.specs.Prelude.{slice_get}
-use Rattle.buck_apt.specs.Instruction.{InstructionParts}
+use Rattle.buck_apt_instruction.specs.Instruction.{InstructionParts}
 use Rattle.buck_value.specs.Sheet.{SheetParts}
 use Rattle.buck_book_postings.specs.Walk.{walk_of}
 use Rattle.buck_page_figures.specs.Journals.{entries_in}

@@ -1,7 +1,7 @@
 use Rattle.std.proofs.Common.{◌≡◌, ◌∙◌, ap, arith}
 use Rattle.std.specs.List.{flat_map}
 use Rattle.std.proofs.lemmas.List.{take_all}
-use Rattle.buck_apt.specs.Instruction.{AssortmentParts}
+use Rattle.buck_apt_instruction.specs.Instruction.{AssortmentParts}
 use Rattle.buck_book_postings.specs.Posting.{opening_targets}
 use Rattle.buck_page_figures.proofs.JournalLemmas.{opening_number}
 use Rattle.buck_page_figures.proofs.course.opening_targets.Goals as goal

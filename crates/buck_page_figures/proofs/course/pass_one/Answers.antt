@@ -1,5 +1,5 @@
 use Rattle.std.proofs.Common.{◌≡◌, ◌+◌, ◌∙◌, ap, refl, sym, subst}
-use Rattle.buck_apt.specs.Instruction.{InstructionParts}
+use Rattle.buck_apt_instruction.specs.Instruction.{InstructionParts}
 use Rattle.buck_value.specs.Sheet.{SheetParts}
 use Rattle.buck_book_postings.specs.Walk.{IsCountable, WalkParts, walk_of}
 use Rattle.buck_page_figures.specs.inner.Account.{IsAccount, IsAccountWith}

@@ -1,7 +1,7 @@
 use Rattle.std.proofs.Common.{◌≡◌, ◌<◌, subst, sym, refl, ap, ◌∙◌, arith, rules, slice_index, length}
 use Rattle.std.proofs.lemmas.Option.{slice_get_within}
 use Rattle.std.specs.Prelude.{slice_get, Some}
-use Rattle.buck_apt.specs.Instruction.{IsClass, InstructionParts, AssortmentParts, index_of}
+use Rattle.buck_apt_instruction.specs.Instruction.{IsClass, InstructionParts, AssortmentParts, index_of}
 use Rattle.buck_value.specs.Allowed.{kind_in}
 use Rattle.buck_value.specs.Volume.{volume, worth_at}
 use Rattle.buck_value.proofs.Classes.{allowed_low, class_is_class}

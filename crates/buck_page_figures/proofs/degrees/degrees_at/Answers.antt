@@ -1,6 +1,6 @@
 use Rattle.std.proofs.Common.{◌≡◌, ◌*◌, length}
 use Rattle.std.specs.Prelude.{slice_get, Some}
-use Rattle.buck_apt.specs.Instruction.{AssortmentParts}
+use Rattle.buck_apt_instruction.specs.Instruction.{AssortmentParts}
 use Rattle.buck_book_postings.proofs.Degrees.{stands}
 use Rattle.buck_page_figures.proofs.RowLemmas.{length-part}
 use Rattle.buck_page_figures.proofs.degrees.degrees_at.Goals as goal

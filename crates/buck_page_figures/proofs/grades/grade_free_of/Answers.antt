@@ -1,5 +1,5 @@
 use Rattle.std.proofs.Common.{◌++◌, length, take, sym, ap, subst, ◌∙◌, arith}
-use Rattle.buck_apt.specs.Grades.{grade_free}
+use Rattle.buck_apt_instruction.specs.Grades.{grade_free}
 use Rattle.buck_value.specs.Sheet.{SheetParts}
 use Rattle.buck_page_figures.specs.Journals.{postings_of}
 use Rattle.buck_page_figures.specs.inner.Grades.{ArePassed, HasRoom}

@@ -1,5 +1,5 @@
 use Rattle.std.proofs.Common.{◌≡◌, take}
-use Rattle.buck_apt.specs.Grades.{grade_free}
+use Rattle.buck_apt_instruction.specs.Grades.{grade_free}
 use Rattle.buck_page_figures.specs.Figures.{base_sheet}
 use Rattle.buck_page_figures.specs.Journals.{postings_of}
 use Rattle.buck_page_figures.specs.inner.Grades.{ArePassed}

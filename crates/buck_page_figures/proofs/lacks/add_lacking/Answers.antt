@@ -1,7 +1,7 @@
 use Rattle.std.proofs.Common.{◌≡◌, ◌<◌, ℕ, length, refl, sym, subst, ap, ◌∙◌, inl, inr, arith, rules}
 use Rattle.std.specs.Prelude.{slice_get, slice_index, Some, sum}
 use Rattle.std.proofs.lemmas.Option.{slice_get_cases}
-use Rattle.buck_apt.specs.Instruction.{AssortmentParts, InstructionParts, classes, classes_of}
+use Rattle.buck_apt_instruction.specs.Instruction.{AssortmentParts, InstructionParts, classes, classes_of}
 use Rattle.buck_book_postings.specs.Degree.{part_of}
 use Rattle.buck_page_figures.specs.inner.Lacking.{AreLacksBefore}
 use Rattle.buck_page_figures.proofs.LackingLemmas.{lacks_more, lacks_same, lacks_last, lacks_skip, none_short, not_short}

@@ -1,5 +1,5 @@
 use Rattle.buck_page_figures.proofs.TallyLemmas.{tally_none, none_high}
-use Rattle.buck_apt.specs.Instruction.{classes}
+use Rattle.buck_apt_instruction.specs.Instruction.{classes}
 use Rattle.buck_page_figures.proofs.tally.no_tally.Goals as goal
 
 pub returns-clause-tally : goal.returns-clause-tally

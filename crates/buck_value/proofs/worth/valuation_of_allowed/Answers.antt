@@ -1,6 +1,6 @@
 use Rattle.std.proofs.Common.{◌≡◌, Some, Contains, slice_get, refl, sym, ◌∙◌, subst, rules, arith}
 use Rattle.std.proofs.lemmas.Option.{same_Some, slice_get_within}
-use Rattle.buck_apt.specs.Instruction.{AssortmentParts}
+use Rattle.buck_apt_instruction.specs.Instruction.{AssortmentParts}
 use Rattle.buck_value.proofs.Classes.{column_there, worth_by_class}
 use Rattle.buck_value.proofs.Stands.{stands}
 use Rattle.buck_value.proofs.worth.valuation_of_allowed.Goals as goal

@@ -1,5 +1,5 @@
 use Rattle.std.proofs.Common.{sym, ap, subst}
-use Rattle.buck_apt.specs.Instruction.{InstructionParts}
+use Rattle.buck_apt_instruction.specs.Instruction.{InstructionParts}
 use Rattle.buck_book_postings.specs.History.{HistoryParts}
 use Rattle.buck_book_postings.specs.Walk.{IsCountable, WalkParts}
 use Rattle.buckfleet_engine_files.specs.Ruled.{ArePricesAt}

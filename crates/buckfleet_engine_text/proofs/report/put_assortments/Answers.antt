@@ -1,5 +1,5 @@
 use Rattle.std.proofs.Common.{List, length, ap, arith}
-use Rattle.buck_apt.specs.Instruction.{AssortmentParts}
+use Rattle.buck_apt_instruction.specs.Instruction.{AssortmentParts}
 use Rattle.buckfleet_engine_text.proofs.Reports.{assortment_more}
 use Rattle.buckfleet_engine_text.proofs.report.put_assortments.Goals as goal
 

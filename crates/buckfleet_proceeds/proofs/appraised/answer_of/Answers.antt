@@ -1,5 +1,5 @@
 use Rattle.std.proofs.Common.{◌≡◌, map, subst, rules}
-use Rattle.buck_apt.specs.Instruction.{InstructionParts}
+use Rattle.buck_apt_instruction.specs.Instruction.{InstructionParts}
 use Rattle.buckfleet_engine_files.specs.Several.{HaveJournals, IsSeveralFault}
 use Rattle.buckfleet_terms_files.specs.Own.{HasShapeOf}
 use Rattle.buckfleet_proceeds.proofs.Answered.{appraised_so, files_stop, replay_stops}

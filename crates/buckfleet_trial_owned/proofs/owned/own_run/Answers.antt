@@ -1,5 +1,5 @@
 use Rattle.std.proofs.Common.{◌≡◌, rules, subst}
-use Rattle.buck_apt.specs.Settings.{with_settings}
+use Rattle.buck_apt_instruction.specs.Settings.{with_settings}
 use Rattle.buckfleet_trial.specs.Light.{HasCutOf}
 use Rattle.buckfleet_trial_owned.proofs.Owning.{own_run_is}
 use Rattle.buckfleet_trial_owned.proofs.owned.own_run.Goals as goal

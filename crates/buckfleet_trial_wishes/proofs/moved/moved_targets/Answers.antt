@@ -1,6 +1,6 @@
 use Rattle.std.proofs.Common.{◌<◌, ◌≤◌, ◌∙◌, length, ap, arith, subst, sym}
 use Rattle.std.proofs.lemmas.Option.{same_Some}
-use Rattle.buck_apt.specs.Instruction.{AssortmentParts, classes_of}
+use Rattle.buck_apt_instruction.specs.Instruction.{AssortmentParts, classes_of}
 use Rattle.buckfleet_trial_wishes.proofs.Targets.{all_moved, kept_more, moved_more, still_wanted}
 use Rattle.buckfleet_trial_wishes.proofs.moved.moved_targets.Goals as goal
 use Rattle.buckfleet_trial_wishes.proofs.moved.moved_targets.Goals.{then-place-at+in_ok-put_moved, else-place-at+in_ok-extend_from_slice}

@@ -1,6 +1,6 @@
 use Rattle.std.proofs.Common.{◌≡◌, ◌∙◌, Some, ap, arith, length, refl, subst}
 use Rattle.std.proofs.lemmas.Option.{slice_get_read, slice_get_within}
-use Rattle.buck_apt.specs.Instruction.{InstructionParts}
+use Rattle.buck_apt_instruction.specs.Instruction.{InstructionParts}
 use Rattle.std.specs.Prelude.{slice_get}
 use Rattle.buckfleet_trial_wishes.specs.WishLine.{AreGains}
 use Rattle.buckfleet_trial_wishes.proofs.Gains.{line_put}

@@ -1,6 +1,6 @@
 use Rattle.std.proofs.Common.{◌≡◌, ◌∙◌, Some, ap, arith, refl, rules, sym}
-use Rattle.buck_apt.specs.Instruction.{classes}
-use Rattle.buck_apt.specs.Wanted.{with_targets}
+use Rattle.buck_apt_instruction.specs.Instruction.{classes}
+use Rattle.buck_apt_instruction.specs.Wanted.{with_targets}
 use Rattle.buck_book_postings.specs.Posting.{opening_targets}
 use Rattle.buckfleet_trial_wishes.specs.Wishes.{IsMoved}
 use Rattle.buckfleet_trial_wishes.specs.inner.Asking.{IsRunBy}

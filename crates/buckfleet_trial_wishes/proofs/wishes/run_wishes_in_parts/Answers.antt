@@ -1,5 +1,5 @@
 use Rattle.std.proofs.Common.{map}
-use Rattle.buck_apt.specs.Settings.{with_settings}
+use Rattle.buck_apt_instruction.specs.Settings.{with_settings}
 use Rattle.buckfleet_trial.specs.Inputs.{held_with}
 use Rattle.buckfleet_trial.specs.Trial.{starts_of}
 use Rattle.buckfleet_trial_wishes.specs.Wishes.{AnswersWishes, AreWishes}

@@ -1,6 +1,6 @@
 use Rattle.std.proofs.Common.{◌≡◌, slice_index, Some, IfSome, subst, rules}
 use Rattle.std.specs.Fn.{FnReturnsAt}
-use Rattle.buck_apt.specs.Instruction.{index_of}
+use Rattle.buck_apt_instruction.specs.Instruction.{index_of}
 use Rattle.buck_book_postings.specs.History.{standing_of}
 use Rattle.buck_book_postings.specs.Pricing.{AreAnswersWith}
 use Rattle.buck_book_postings.specs.Book.{postings_with}

@@ -1,6 +1,6 @@
 use Rattle.std.proofs.Common.{◌≡◌, slice_index, subst, rules}
 use Rattle.std.specs.Fn.{FnReturnsAt}
-use Rattle.buck_apt.specs.Instruction.{index_of}
+use Rattle.buck_apt_instruction.specs.Instruction.{index_of}
 use Rattle.buck_book_postings.specs.History.{standing_of}
 use Rattle.buck_book_postings.specs.Book.{postings_with_demand}
 use Rattle.wrong_book.proofs.book.sheet_of_demand_by_targets_before.Goals as goal

@@ -1,0 +1,3 @@
+pub mod PlaceLemmas
+pub mod Rising
+pub mod ChangeLemmas
