@@ -40,7 +40,7 @@ from pages import files_in, libraries
 from quick import TOP, crates
 
 # Copies of a file of examples/ under another name.
-COPIES = {"crates/run_view/data/saw.apt": "two_stems.apt", "crates/bench_calls/data/saw.apt": "two_stems.apt"}
+COPIES = {"crates/run_harvest/data/saw.apt": "two_stems.apt", "crates/bench_calls/data/saw.apt": "two_stems.apt"}
 
 # The families of crates, by their names: files, one stem, the history of one thread, many harvesters, the page, the
 # program, what C calls; callers that prove wrong bodies wrong, what tests share, tests, whole runs, what is timed, uses.

@@ -64,7 +64,7 @@ PROMISES = [
         ],
     ),
     ("the history of a book", ["buck_book_postings::Book::*", "buck_rule::Rule::*"]),
-    ("a checked journal", ["buckfleet_engine::run_check", "buck_book_text::read_journal", "buck_book_replay::replay*"]),
+    ("a checked journal", ["buckfleet_engine::run_check", "buck_book_reader::read_journal", "buck_book_replay::replay*"]),
     ("a journal shown", ["buckfleet_engine_page::run_view", "buckfleet_engine_page::run_table", "buckfleet_engine_page::serve_view", "buck_page_figures::figures_of"]),
     ("the report", ["buckfleet_engine::report_text", "buckfleet_engine::degree", "buckfleet_engine::run_report"]),
     ("a whole run of the program", ["buckfleet_engine::serve", "buckfleet_engine::conclude", "buckfleet_engine::explain"]),

@@ -69,7 +69,7 @@ def worked():
     """The runs: what is given on standard input, the files by their names, the words, and whether the answer is one."""
     pine = {"a": read("examples", "pine.apt"), "b": read("examples", "pine.stm")}
     two = {"a": read("examples", "two_stems.apt"), "b": read("examples", "two_stems.jrn")}
-    refused = {"a": read("crates", "run_morning", "data", "refused.apt"), "b": pine["b"]}
+    refused = {"a": read("crates", "run_harvest", "data", "refused.apt"), "b": pine["b"]}
     morning = {name: read("examples", f"morning.{name}") for name in ("apt", "jrn")}
     morning.update({name: read("examples", f"morning_{name}.stm") for name in ("1", "2", "3")})
     bare = read("crates", "buckfleet", "stdin")

@@ -23,19 +23,16 @@ PAGE = os.path.join("docs", "WRONG_BODIES.md")
 
 # Callers about another call than the one that these rules find, by their module and name.
 ABOUT = {
-    "wrong_files::record::fault_fields_with_the_number": ("buck_record", "FaultNumbers::fields"),
     "wrong_files::stem::samples_are_the_least_ones": ("buck_stem", "Stem::samples"),
     "wrong_files::stem::short_without_its_zones": ("buck_stem", "Stem::zones"),
     "wrong_files::instruction::classes_are_rows": ("buck_apt_instruction", "Assortment::classes"),
-    "wrong_files::instruction::classes_without_the_first_assortment": ("buck_apt_instruction", "Instruction::classes"),
     "wrong_best::value::copy_at_base_prices": ("buck_value", "Sheet::copy"),
     "wrong_book::book::other_rule_begins_anew": ("buck_book_postings", "Book::with_rule"),
     "wrong_book::book::posting_clone_as_the_first": ("buck_book_postings", "Posting::clone"),
     "wrong_book::walk::begins_after_a_cut": ("buck_book_postings", "Walk::begins_period"),
-    "wrong_sweep::runs::period_of_nothing_accepted": ("buckfleet_tasks", "combinations"),
+    "wrong_trial::runs::period_of_nothing_accepted": ("buckfleet_tasks", "combinations"),
     "wrong_page::figures::count_of_the_last_cut_forgotten": ("buck_page_figures", "figures_of"),
     "wrong_page::names::*_gets_through": ("buck_page_text", "Name"),
-    "wrong_page::names::text_printed_by_its_bytes": ("buck_page_text", "Name"),
     "wrong_engine::views::journals_65_accepted": ("buckfleet_tasks", "ViewTask"),
     "wrong_world::steps::*": ("buck_fleet_world", "World::step"),
 }

@@ -4,7 +4,7 @@
 ghost use Rattle.std.specs.Prelude.{◌≡◌};
 ghost use Rattle.buck_rule.specs.Stored.{Answers};
 
-use crate::instruction::one_saw_log;
+use crate::input::one_saw_log;
 use buck_book::{Book, Plan};
 use buck_rule::{Rule, Standing, step};
 use buck_stem::Stem;
@@ -16,51 +16,10 @@ use std::time::{Clock, Instant};
 /// How many entries make a period of the instruction.
 const PERIOD: u32 = 100;
 
-/// The nanoseconds that each call took, by what was called.
-#[derive(Drop)]
-struct Times {
-    /// The clock, read twice with nothing between.
-    clock: Vec<u64>,
-    /// A plan: the part of each that all plans of a period took.
-    plan: Vec<u64>,
-    /// `prepare` and `commit` of an entry after which the period goes on.
-    within: Vec<u64>,
-    /// The same of an entry that ends its period, for which the next sheet is made.
-    ending: Vec<u64>,
-}
-
-impl Times {
-    /// Room for what so many periods take.
-    fn with_room(alloc: Global, periods: u32) -> Option<Times> {
-        let periods = periods as usize;
-        Some(Times {
-            clock: Vec::with_capacity(alloc, periods).ok()?,
-            plan: Vec::with_capacity(alloc, periods).ok()?,
-            within: Vec::with_capacity(alloc, periods * (PERIOD as usize - 1)).ok()?,
-            ending: Vec::with_capacity(alloc, periods).ok()?,
-        })
-    }
-
-    /// Keeps the time of a commit.
-    fn keep_commit(&mut self, is_end: bool, nanos: u64) -> Option<()> {
-        if is_end {
-            self.ending.push(nanos).ok()
-        } else {
-            self.within.push(nanos).ok()
-        }
-    }
-}
-
 /// The nanoseconds since the clock was read.
 fn nanos_since<R: Clock>(rt: &R, start: Instant) -> Option<u64> {
     let took = start.elapsed(rt).ok()?;
     u64::try_from(took.as_nanos()).ok()
-}
-
-/// The nanoseconds that the clock itself takes.
-fn clock_nanos<R: Clock>(rt: &R) -> Option<u64> {
-    let start = Instant::now(rt).ok()?;
-    nanos_since(rt, start)
 }
 
 /// Plans a stem for each entry of a period.
@@ -73,100 +32,77 @@ fn plans_of(alloc: Global, sheet: &Arc<Sheet>, stem: &Arc<Stem>) -> Option<Vec<P
     Some(plans)
 }
 
-/// Prepares and commits a plan, and gives the nanoseconds that both took. The entry is let go after that.
-fn commit_one<R: Clock, F: Fn(&Standing) -> u64 + Drop>(
-    rt: &R,
-    alloc: Global,
-    book: &mut Book<F>,
-    plan: Plan,
-) -> Option<u64>
-    requires { Answers F.Fn book.old.rule }
-    ensures { book.new.rule ≡ book.old.rule }
-{
-    let Ok(start) = Instant::now(rt) else {
-        return None;
-    };
-    let Ok(ready) = book.prepare(alloc, &plan) else {
-        return None;
-    };
-    let _entry = book.commit(ready, 1, plan);
-    nanos_since(rt, start)
-}
-
-/// Commits the plans of a period.
-fn commit_period<R: Clock, F: Fn(&Standing) -> u64 + Drop>(
-    rt: &R,
-    alloc: Global,
-    book: &mut Book<F>,
-    plans: Vec<Plan>,
-    times: &mut Times,
-) -> Option<()>
-    requires { Answers F.Fn book.old.rule }
-    ensures { book.new.rule ≡ book.old.rule }
-{
-    for plan in plans {
-        let version = book.version();
-        let nanos = commit_one(rt, alloc, book, plan)?;
-        times.keep_commit(book.version() != version, nanos)?;
-    }
-    Some(())
-}
-
-/// Plans and commits so many periods.
+/// Plans and commits so many periods, and gives the nanoseconds that each call took, by what was called: the clock, read
+/// twice with nothing between; a plan, as the part of each that all plans of a period took; `prepare` and `commit` of an
+/// entry after which the period goes on; and the same of an entry that ends its period, for which the next sheet is made.
+/// The entry is let go after its time is taken.
 fn commit_all<R: Clock, F: Fn(&Standing) -> u64 + Drop>(
     rt: &R,
     alloc: Global,
     book: &mut Book<F>,
     stem: &Arc<Stem>,
-    times: &mut Times,
     periods: u32,
-) -> Option<()>
+) -> Option<[(&'static str, Vec<u64>); 4]>
     requires { Answers F.Fn book.old.rule }
 {
+    let number = periods as usize;
+    let mut clock = Vec::with_capacity(alloc, number).ok()?;
+    let mut planning = Vec::with_capacity(alloc, number).ok()?;
+    let mut within = Vec::with_capacity(alloc, number * (PERIOD as usize - 1)).ok()?;
+    let mut ending = Vec::with_capacity(alloc, number).ok()?;
     for _ in 0..periods {
-        times.clock.push(clock_nanos(rt)?).ok()?;
+        let start = Instant::now(rt).ok()?;
+        clock.push(nanos_since(rt, start)?).ok()?;
         let start = Instant::now(rt).ok()?;
         let plans = plans_of(alloc, book.sheet(), stem)?;
-        times
-            .plan
+        planning
             .push(nanos_since(rt, start)? / u64::from(PERIOD))
             .ok()?;
-        commit_period(rt, alloc, book, plans, times)?;
+        for plan in plans {
+            let version = book.version();
+            let Ok(start) = Instant::now(rt) else {
+                return None;
+            };
+            let Ok(ready) = book.prepare(alloc, &plan) else {
+                return None;
+            };
+            let _entry = book.commit(ready, 1, plan);
+            let nanos = nanos_since(rt, start)?;
+            if book.version() != version {
+                ending.push(nanos).ok()?;
+            } else {
+                within.push(nanos).ok()?;
+            }
+        }
     }
-    Some(())
+    Some([
+        ("clock", clock),
+        ("plan", planning),
+        ("within", within),
+        ("ending", ending),
+    ])
 }
 
-/// Prints the least, the median and the 90th percentile of the times of a kind of call, after its name.
-fn show(rt: &HostRuntime, name: &str, mut times: Vec<u64>) {
-    times.sort_unstable();
-    let least = times.first().copied().unwrap_or(0);
-    let median = times.get(times.len() / 2).copied().unwrap_or(0);
-    let most = times.get(times.len() / 10 * 9).copied().unwrap_or(0);
-    let _ = eprintln!(rt; "{name} {least} {median} {most}");
-}
-
-/// A stem of 3 m, of which one log is cut.
-fn short_stem(alloc: Global) -> Option<Arc<Stem>> {
-    let samples = vec![in alloc; 250; 31].ok()?;
-    let stem = Stem::make(alloc, 1, 1, samples, Vec::new(alloc)).ok()?;
-    Arc::new(alloc, stem).ok()
-}
-
-/// Commits so many periods to a new book. It prints how many entries and sheets the book has, and beside it, as errors
-/// are, what was measured.
+/// Commits so many periods to a new book, of a stem of 3 m of which one log is cut. It prints how many entries and
+/// sheets the book has, and beside it, as errors are, the least, the median and the 90th percentile of what was
+/// measured of each kind of call, after its name.
 pub fn run(rt: &HostRuntime, periods: u32) -> Option<()> {
     let alloc = rt.alloc();
     let instruction = one_saw_log(alloc)?;
-    let stem = short_stem(alloc)?;
+    let samples = vec![in alloc; 250; 31].ok()?;
+    let stem = Stem::make(alloc, 1, 1, samples, Vec::new(alloc)).ok()?;
+    let stem = Arc::new(alloc, stem).ok()?;
     let rule = Rule::new(|s: &Standing| step(s));
-    let mut times = Times::with_room(alloc, periods)?;
     let mut book = Book::open(alloc, instruction, rule, 1_000_000).ok()?;
-    commit_all(rt, alloc, &mut book, &stem, &mut times, periods)?;
+    let kinds = commit_all(rt, alloc, &mut book, &stem, periods)?;
     let (entries, sheets) = (book.len(), book.sheets().len());
     let _ = println!(rt; "{entries} entries, {sheets} sheets");
-    show(rt, "clock", times.clock);
-    show(rt, "plan", times.plan);
-    show(rt, "within", times.within);
-    show(rt, "ending", times.ending);
+    for (name, mut times) in kinds {
+        times.sort_unstable();
+        let least = times.first().copied().unwrap_or(0);
+        let median = times.get(times.len() / 2).copied().unwrap_or(0);
+        let most = times.get(times.len() / 10 * 9).copied().unwrap_or(0);
+        let _ = eprintln!(rt; "{name} {least} {median} {most}");
+    }
     Some(())
 }

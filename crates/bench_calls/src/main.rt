@@ -11,7 +11,7 @@
 mod board;
 mod commits;
 mod fleet;
-mod instruction;
+mod input;
 mod stems;
 
 use std::env;
@@ -25,19 +25,6 @@ fn number_at(words: &[String], place: usize) -> Option<u32> {
     words.get(place)?.as_str().parse::<u32>().ok()
 }
 
-/// A little of each.
-fn brief<R: Threads + Wait + Clock + Sync>(
-    rt: &R,
-    host: &HostRuntime,
-    words: &[String],
-) -> Option<()> {
-    commits::run(host, 10)?;
-    board::run(rt, host.alloc(), true, 1000, 2)?;
-    board::run(rt, host.alloc(), false, 1000, 2)?;
-    fleet::run(rt, host, false, words.get(..3)?)?;
-    stems::run(host, words.get(1..)?)
-}
-
 /// Does what the words ask for. None is for words that aren't right, and for work that fails.
 fn run<R: Threads + Wait + Clock + Sync>(
     rt: &R,
@@ -47,24 +34,24 @@ fn run<R: Threads + Wait + Clock + Sync>(
     let rest = words.get(1..)?;
     match words.first()?.as_str() {
         "commits" => commits::run(host, number_at(rest, 0)?),
-        "read" => board::run(
-            rt,
-            host.alloc(),
-            true,
-            number_at(rest, 0)?,
-            number_at(rest, 1)?,
-        ),
-        "put" => board::run(
-            rt,
-            host.alloc(),
-            false,
-            number_at(rest, 0)?,
-            number_at(rest, 1)?,
-        ),
+        "read" => {
+            let threads = number_at(rest, 1)?;
+            board::run(rt, host.alloc(), true, number_at(rest, 0)?, threads)
+        }
+        "put" => {
+            let threads = number_at(rest, 1)?;
+            board::run(rt, host.alloc(), false, number_at(rest, 0)?, threads)
+        }
         "time" => fleet::run(rt, host, true, rest),
         "plans" => fleet::run(rt, host, false, rest),
         "stems" => stems::run(host, rest),
-        "brief" => brief(rt, host, rest),
+        "brief" => {
+            commits::run(host, 10)?;
+            board::run(rt, host.alloc(), true, 1000, 2)?;
+            board::run(rt, host.alloc(), false, 1000, 2)?;
+            fleet::run(rt, host, false, rest.get(..3)?)?;
+            stems::run(host, rest.get(1..)?)
+        }
         _ => None,
     }
 }

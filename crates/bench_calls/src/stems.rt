@@ -4,13 +4,12 @@
 ghost use Rattle.std.specs.Prelude.{◌≡◌};
 ghost use Rattle.buck_rule.specs.Stored.{Answers};
 
-use buck_apt::read_apt;
+use crate::input::{dealt, instruction_of};
 use buck_book::{Book, Plan};
 use buck_dp::Planner;
 use buck_rule::{Rule, Standing, linear};
-use buck_stem::{Stem, read_stm};
+use buck_stem::Stem;
 use std::alloc::Global;
-use std::fs;
 use std::sync::Arc;
 
 /// Cuts a stem under the sheet in force, and gives what the cutting is worth.
@@ -36,24 +35,7 @@ fn cut_one<F: Fn(&Standing) -> u64 + Drop>(
     Some(entry.worth)
 }
 
-/// Cuts all stems, and gives what the cuttings are worth together.
-fn cut_all<F: Fn(&Standing) -> u64 + Drop>(
-    alloc: Global,
-    book: &mut Book<F>,
-    planner: &mut Planner,
-    stems: &[Arc<Stem>],
-) -> Option<u64>
-    requires { Answers F.Fn book.old.rule }
-    ensures { book.new.rule ≡ book.old.rule }
-{
-    let mut worth = 0u64;
-    for stem in stems {
-        worth = worth.wrapping_add(cut_one(alloc, book, planner, stem)?);
-    }
-    Some(worth)
-}
-
-/// Cuts all stems so often.
+/// Cuts all stems so often, and gives what the cuttings are worth together.
 fn cut_often<F: Fn(&Standing) -> u64 + Drop>(
     alloc: Global,
     book: &mut Book<F>,
@@ -65,32 +47,22 @@ fn cut_often<F: Fn(&Standing) -> u64 + Drop>(
     let mut planner = Planner::make(alloc, book.sheet().clone().ok()?).ok()?;
     let mut worth = 0u64;
     for _ in 0..times {
-        worth = worth.wrapping_add(cut_all(alloc, book, &mut planner, stems)?);
+        for stem in stems {
+            worth = worth.wrapping_add(cut_one(alloc, book, &mut planner, stem)?);
+        }
     }
     Some(worth)
-}
-
-/// The stems of a file.
-fn stems_of(rt: &HostRuntime, file: &str) -> Option<Vec<Arc<Stem>>> {
-    let bytes = fs::read(rt, file).ok()?;
-    let mut stems = Vec::new(rt.alloc());
-    for stem in read_stm(rt.alloc(), bytes.as_slice()).ok()? {
-        stems.push(Arc::new(rt.alloc(), stem).ok()?).ok()?;
-    }
-    Some(stems)
 }
 
 /// Cuts the stems of a file. The words: an instruction file, a stem file, and how often the stems are cut. It prints
 /// how many entries and sheets the book has, and what all cuttings are worth.
 pub fn run(rt: &HostRuntime, words: &[String]) -> Option<()> {
-    let bytes = fs::read(rt, words.first()?.as_str()).ok()?;
-    let instruction = read_apt(rt.alloc(), bytes.as_slice()).ok()?;
-    let instruction = Arc::new(rt.alloc(), instruction).ok()?;
-    let stems = stems_of(rt, words.get(1)?.as_str())?;
+    let instruction = instruction_of(rt, words.first()?.as_str())?;
+    let lists = dealt(rt, words.get(1..2)?, 1)?;
     let times = words.get(2)?.as_str().parse::<u32>().ok()?;
     let rule = Rule::new(|s: &Standing| linear(s));
     let mut book = Book::open(rt.alloc(), instruction, rule, 1_000_000).ok()?;
-    let worth = cut_often(rt.alloc(), &mut book, stems.as_slice(), times)?;
+    let worth = cut_often(rt.alloc(), &mut book, lists.first()?.as_slice(), times)?;
     let (entries, sheets) = (book.len(), book.sheets().len());
     let _ = println!(rt; "{entries} entries, {sheets} sheets, {worth}");
     Some(())

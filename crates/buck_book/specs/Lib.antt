@@ -14,8 +14,9 @@ pub use Rattle.buck_book_postings.specs.Degree
 pub use Rattle.buck_book_journal.specs.Journal
 pub use Rattle.buck_book_journal.specs.Several
 pub use Rattle.buck_book_journal.specs.Faults
-pub use Rattle.buck_book_text.specs.Written
-pub use Rattle.buck_book_text.specs.reading
-pub use Rattle.buck_book_text.specs.Ranges
+pub use Rattle.buck_book_journal.specs.Written
+pub use Rattle.buck_book_journal.specs.Reading
+pub use Rattle.buck_book_laws.specs.Ranges
+pub use Rattle.buck_book_laws.specs.JournalsOfCuts
 pub use Rattle.buck_book_replay.specs.Replay
 pub use Rattle.buck_book_replay.specs.Order

@@ -10,5 +10,6 @@ pub use buck_book_postings::{
     Book, CutFault, Demand, DemandRefusal, Entry, Kept, MOST_POSTINGS, Memory, Parts, Plan,
     Posting, Ready, ReadyDemand, Refusal, TargetsFault, Walk, check_targets, degree_at,
 };
+pub use buck_book_reader::{read_journal, read_journal_in_parts};
 pub use buck_book_replay::{Stop, replay, replay_in_order, replay_in_parts, replay_to_end};
-pub use buck_book_text::{journal_text, read_journal, read_journal_in_parts};
+pub use buck_book_writer::journal_text;

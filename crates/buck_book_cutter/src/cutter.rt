@@ -8,13 +8,13 @@ ghost use Rattle.buck_book_postings.specs.Pricing.{AreAnswers};
 ghost use Rattle.buck_book_postings.specs.Refused.{IsBelow, IsFull, IsDemandRefusal, IsRefusalInForce};
 ghost use Rattle.buck_book_postings.specs.declared.posting.TheConstants.{MOST_POSTINGS};
 ghost use Rattle.buck_book_postings.specs.declared.ready.CutFault.TheVariants.{Full};
-ghost use Rattle.buck_book_text.specs.Written.{journal_text};
+ghost use Rattle.buck_book_journal.specs.Written.{journal_text};
 ghost use Rattle.buck_book_cutter.specs.Cut.{HasCut, HasRetargeted, StaysByRule, opening};
 ghost use Rattle.buck_book_cutter.specs.inner.Planned.{IsSheetOf};
 
 use buck_apt_instruction::Instruction;
 use buck_book_postings::{Book, CutFault, Demand, DemandRefusal, Entry, Plan};
-use buck_book_text::journal_text;
+use buck_book_writer::journal_text;
 use buck_dp::Planner;
 use buck_record::Memory;
 use buck_rule::{Rule, Standing};

@@ -1,3 +1,5 @@
 pub mod Journal
 pub mod Several
 pub mod Faults
+pub mod Written
+pub mod Reading

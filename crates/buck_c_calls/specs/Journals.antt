@@ -1,7 +1,7 @@
 -- The journal of a kept book, as a caller in another language sees it.
 use Rattle.std.specs.Prelude.{◌≡◌, ◌⊎◌, ℕ, List}
 use Rattle.buckfleet_engine_files.specs.Faults.{memory_line}
-use Rattle.buck_book_text.specs.Written.{journal_text}
+use Rattle.buck_book_journal.specs.Written.{journal_text}
 use Rattle.buck_c_session.specs.Kept.{KeptParts}
 use Rattle.buck_c_calls.specs.Books.{memory}
 

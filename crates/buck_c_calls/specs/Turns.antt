@@ -3,7 +3,7 @@ use Rattle.std.specs.Prelude.{◌≡◌, ◌≢◌, ◌⊎◌, ◌<◌, ℕ, ◌
 use Rattle.std.specs.List.{concat}
 use Rattle.buck_apt.specs.Apt.{apt_of}
 use Rattle.buck_book_postings.specs.History.{HistoryParts}
-use Rattle.buck_book_text.specs.Written.{journal_text}
+use Rattle.buck_book_journal.specs.Written.{journal_text}
 use Rattle.buckfleet_engine_files.specs.declared.fault.EngineFault.{EngineFault}
 use Rattle.buckfleet_engine_files.specs.declared.fault.EngineFault.TheVariants.{Memory}
 use Rattle.buckfleet_tasks.specs.declared.harvests.Order.TheVariants.{InTurn}

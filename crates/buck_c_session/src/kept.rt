@@ -1,6 +1,6 @@
 //! The book of one thread, kept between calls, with a rule that has a name.
 ghost use Rattle.std.specs.Prelude.{◌≡◌, ◌<◌, ◌≤◌, IfOk, IfErr, length};
-ghost use Rattle.buck_book_text.specs.Written.{journal_text};
+ghost use Rattle.buck_book_journal.specs.Written.{journal_text};
 ghost use Rattle.buck_book_cutter.specs.Cut.{HasCut, HasRetargeted};
 ghost use Rattle.buck_c_session.specs.Kept.{ArePricesBy, IsDemandRefused, SameTerms, opened};
 ghost use Rattle.buck_c_session.specs.Looked.{IsPlannedNow};

@@ -2,7 +2,7 @@
 use buck_apt::{AptFault, read_apt};
 use buck_apt_instruction::{Instruction, Settings};
 use buck_book_journal::{Journal, JournalFault, ReplayFault};
-use buck_book_text::read_journal;
+use buck_book_reader::read_journal;
 use buck_record::Memory;
 use buck_stem::StmFault;
 use buckfleet_command_streams::{Copied, Known, LIMIT, Trouble, Troubled};

@@ -3,7 +3,7 @@ use Rattle.std.proofs.Common.{◌≡◌, ℕ, List, Option, Result, Ok, Err, inl
 use Rattle.std.specs.Io.KnownBytes.{Appends}
 use Rattle.std.proofs.KnownBytes.{Keeps-refl}
 use Rattle.buck_book_postings.specs.History.{HistoryParts}
-use Rattle.buck_book_text.specs.Written.{journal_text}
+use Rattle.buck_book_journal.specs.Written.{journal_text}
 use Rattle.buckfleet_engine_files.specs.declared.fault.EngineFault.{EngineFault}
 use Rattle.buckfleet_engine_files.specs.Lent.{of_writer}
 use Rattle.buckfleet_engine_files.specs.Written.{AppendsSome, IsWritten}

@@ -15,7 +15,7 @@ use Rattle.std.specs.Io.KnownBytes.{Appends, Keeps}
 use Rattle.std.proofs.KnownBytes.{Keeps-refl}
 use Rattle.buck_book_postings.specs.History.{HistoryParts, IsLawful}
 use Rattle.buck_book_journal.specs.Journal.{JournalParts, history_of}
-use Rattle.buck_book_text.specs.reading.Journal.{journal_of}
+use Rattle.buck_book_journal.specs.Reading.{journal_of}
 use Rattle.buckfleet_engine_files.specs.declared.fault.EngineFault.{EngineFault}
 use Rattle.buckfleet_engine_files.specs.declared.fault.EngineFault.TheVariants.{Memory}
 use Rattle.buck_rule.specs.declared.named.NamedRule.{NamedRule}

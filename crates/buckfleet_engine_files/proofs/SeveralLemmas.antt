@@ -5,7 +5,7 @@ use Rattle.std.specs.Result.{IfErr, IsErrAnd}
 use Rattle.std.proofs.lemmas.List.{take_more}
 use Rattle.std.proofs.lemmas.Option.{none-some, same_Some, slice_get_cases}
 use Rattle.buck_book_journal.specs.Journal.{JournalParts}
-use Rattle.buck_book_text.specs.reading.Journal.{journal_of}
+use Rattle.buck_book_journal.specs.Reading.{journal_of}
 use Rattle.buck_book_journal.specs.Several.{postings_of}
 use Rattle.buckfleet_engine_files.specs.declared.fault.EngineFault.{EngineFault}
 use Rattle.buckfleet_engine_files.specs.declared.fault.EngineFault.TheVariants.{Memory}

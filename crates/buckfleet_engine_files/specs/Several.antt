@@ -5,7 +5,7 @@ use Rattle.buck_apt.specs.Apt.{apt_of}
 use Rattle.buck_book_postings.specs.History.{IsLawful}
 use Rattle.buck_book_postings.specs.declared.posting.TheConstants.{MOST_POSTINGS}
 use Rattle.buck_book_journal.specs.Journal.{JournalParts, history_of}
-use Rattle.buck_book_text.specs.reading.Journal.{journal_of}
+use Rattle.buck_book_journal.specs.Reading.{journal_of}
 use Rattle.buck_book_replay.specs.Replay.{IsFirstFault}
 use Rattle.buck_book_journal.specs.declared.journal_fault.JournalFault.{JournalFault}
 use Rattle.buck_book_journal.specs.declared.replay_fault.ReplayFault.{ReplayFault}

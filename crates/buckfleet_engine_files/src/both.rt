@@ -2,7 +2,7 @@
 ghost use Rattle.std.specs.Prelude.{◌≡◌, ◌≢◌, ◌≤◌, length, Ok, OnOk, IfOk, IfErr};
 ghost use Rattle.buck_apt.specs.Apt.{apt_of};
 ghost use Rattle.buck_book_postings.specs.History.{HistoryParts, IsLawful};
-ghost use Rattle.buck_book_text.specs.reading.Journal.{journal_of};
+ghost use Rattle.buck_book_journal.specs.Reading.{journal_of};
 ghost use Rattle.buck_book_journal.specs.Journal.{history_of};
 ghost use Rattle.buck_book_replay.specs.Replay.{IsFirstFault};
 ghost use Rattle.buckfleet_engine_files.specs.Checking.{IsJournalFault, IsUnlawful, lawful_line};

@@ -1,6 +1,6 @@
 //! An instruction file and several journals that were all read, and the replay of each by the one.
 ghost use Rattle.std.specs.Prelude.{◌≡◌, ◌≢◌, ◌+◌, ◌<◌, ◌≤◌, ◌↔◌, IsTrue, length, map, Ok, OnOk, IfOk, IfErr};
-ghost use Rattle.buck_book_text.specs.reading.Journal.{journal_of};
+ghost use Rattle.buck_book_journal.specs.Reading.{journal_of};
 ghost use Rattle.buck_book_journal.specs.Several.{postings_of};
 ghost use Rattle.buckfleet_engine_files.specs.Reading.{IsFileFault, Says, apt_with};
 ghost use Rattle.buckfleet_engine_files.specs.Several.{AreLawful, HaveJournals, IsFirstUnlawful, IsJournalsFault, IsSeveralFault, journal_fault, replay_fault};

@@ -7,13 +7,13 @@ ghost use Rattle.buck_book_postings.specs.History.{IsLawful};
 ghost use Rattle.buck_book_postings.specs.declared.posting.TheConstants.{MOST_POSTINGS};
 ghost use Rattle.buck_book_journal.specs.Journal.{history_of};
 ghost use Rattle.buck_book_replay.specs.Replay.{IsFirstFault};
-ghost use Rattle.buck_book_text.specs.reading.Journal.{journal_of};
+ghost use Rattle.buck_book_journal.specs.Reading.{journal_of};
 
 use crate::onlooker::Onlooker;
 use buck_apt_instruction::Instruction;
 use buck_book_journal::{Journal, JournalFault, ReplayFault};
+use buck_book_reader::{read_journal, read_journal_in_parts};
 use buck_book_replay::{replay, replay_in_parts};
-use buck_book_text::{read_journal, read_journal_in_parts};
 use buck_stem::{Stem, StmFault, read_stm, read_stm_in_parts};
 use std::alloc::Global;
 use std::marker::Sync;

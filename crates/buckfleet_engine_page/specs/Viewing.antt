@@ -5,7 +5,7 @@ use Rattle.std.specs.Str.{IsUtf8}
 use Rattle.buck_apt_instruction.specs.Instruction.{InstructionParts}
 use Rattle.buck_book_postings.specs.History.{HistoryParts, IsLawful}
 use Rattle.buck_book_journal.specs.Journal.{JournalParts, history_of}
-use Rattle.buck_book_text.specs.reading.Journal.{journal_of}
+use Rattle.buck_book_journal.specs.Reading.{journal_of}
 use Rattle.buck_book_replay.specs.Replay.{IsFirstFault}
 use Rattle.buck_book_journal.specs.declared.replay_fault.ReplayFault.{ReplayFault}
 use Rattle.buckfleet_engine_files.specs.declared.fault.EngineFault.{EngineFault}

@@ -11,8 +11,8 @@ pub use Rattle.std.specs.List.{slice_split, flat_map}
 pub use Rattle.std.specs.Prelude.{nat_le, ◌&&◌, codes}
 pub use Rattle.buckfleet_live.specs.Lines.{is_feed, is_finished, longest_line, ended_line, last_line, lines_in, lines_of}
 pub use Rattle.buckfleet_live.specs.inner.Reading.{AreTaken, HasLines, HasRead, ReadsByte, IsRead}
-pub use Rattle.buck_book_text.specs.reading.Journal.{logs_of}
-pub use Rattle.buck_book_text.proofs.Tuples.{three, next_log}
+pub use Rattle.buck_book_journal.specs.Reading.{logs_of}
+pub use Rattle.buck_book_reader.proofs.Tuples.{three, next_log}
 pub use Rattle.buckfleet_live.specs.Request.{are_low, in_turn, stem_text}
 pub use Rattle.std.specs.Io.KnownBytes.{Appends, Keeps}
 pub use Rattle.buckfleet_engine_files.specs.declared.fault.EngineFault.{EngineFault}

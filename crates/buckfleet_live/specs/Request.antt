@@ -31,7 +31,7 @@ use Rattle.buck_stem.specs.file.Faults.{stm_numbers}
 use Rattle.buck_stem.specs.Stem.{StemParts}
 use Rattle.buck_stem.specs.file.Stm.{stm_of}
 use Rattle.buck_value.specs.declared.log.Log.{Log}
-use Rattle.buck_book_text.specs.reading.Journal.{logs_of}
+use Rattle.buck_book_journal.specs.Reading.{logs_of}
 use Rattle.buckfleet_live.specs.declared.slots.TheConstants.{HARVESTER, PREVIEW, OWN, HIGHEST_ASSORTMENT, MOST_OWN, TARGETS, STEM_ITEMS, AFTER_STEM, TABLE}
 use Rattle.buckfleet_live.specs.declared.request.Asked.{Asked}
 use Rattle.buckfleet_live.specs.declared.request.Asked.TheVariants.{Stem, Preview, Own, Targets}

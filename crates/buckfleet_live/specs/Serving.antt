@@ -7,7 +7,7 @@ use Rattle.buck_apt.specs.Apt.{apt_of}
 use Rattle.buck_apt_instruction.specs.Instruction.{InstructionParts}
 use Rattle.buck_apt_instruction.specs.Settings.{with_settings}
 use Rattle.buck_book_postings.specs.History.{HistoryParts, IsLawful}
-use Rattle.buck_book_text.specs.Written.{journal_text}
+use Rattle.buck_book_journal.specs.Written.{journal_text}
 use Rattle.buckfleet_engine_files.specs.declared.fault.EngineFault.{EngineFault}
 use Rattle.buckfleet_engine_files.specs.declared.fault.EngineFault.TheVariants.{Write, Memory}
 use Rattle.buckfleet_engine_files.specs.Opening.{AnswersInputs, MakesJournal}

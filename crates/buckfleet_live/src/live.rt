@@ -2,7 +2,7 @@
 ghost use Rattle.std.specs.Prelude.{◌≡◌, ◌<◌, IfOk, vec_capacity};
 ghost use Rattle.buck_rule.specs.Stored.{Answers};
 ghost use Rattle.buck_book_postings.specs.Book.{IsBook};
-ghost use Rattle.buck_book_text.specs.Written.{journal_text};
+ghost use Rattle.buck_book_journal.specs.Written.{journal_text};
 ghost use Rattle.buck_book_cutter.specs.Cut.{StaysByRule, opening};
 ghost use Rattle.buckfleet_live.specs.Lines.{longest_line};
 ghost use Rattle.buckfleet_live.specs.Live.{IsLiveRun};

@@ -4,7 +4,7 @@ ghost use Rattle.buck_record.specs.Reading.{Gives};
 ghost use Rattle.buck_record.specs.checking.Table.{is_in};
 ghost use Rattle.buck_stem.specs.file.Faults.{stm_numbers};
 ghost use Rattle.buck_stem.specs.file.Stm.{stm_of};
-ghost use Rattle.buck_book_text.specs.reading.Journal.{logs_of};
+ghost use Rattle.buck_book_journal.specs.Reading.{logs_of};
 ghost use Rattle.buckfleet_live.specs.Request.{
   are_low,
   asked_in,

@@ -26,7 +26,8 @@ enum Part {
     Apt,
     Stm,
     Jrn,
-    File,
+    /// The file that the words may name at this place.
+    File(usize),
     Prints,
     Keeps,
 }
@@ -101,7 +102,10 @@ fn put_byte(out: &mut Vec<u8>, at: At, byte: u8) -> Result<Option<At>, Memory> {
         }
         At::Escape if byte == b'x' => Ok(Some(At::First)),
         At::Escape => Ok(None),
-        At::First => Ok(digit_of(byte).map(|high| At::Second(high))),
+        At::First => match digit_of(byte) {
+            None => Ok(None),
+            Some(high) => Ok(Some(At::Second(high))),
+        },
         At::Second(high) => match digit_of(byte) {
             None => Ok(None),
             Some(low) => {
@@ -170,31 +174,16 @@ impl<'a> Case<'a> {
         !self.title.is_empty()
     }
 
-    /// Whether there is a case, of which this line of a file is no part.
-    pub fn ends_before(&self, line: &str) -> bool {
-        self.is_begun() && line.starts_with("== ")
-    }
-
-    /// Begins the next case: its files are those of the case before, and it has no words and wants nothing yet.
-    pub fn begin(&mut self, title: &'a str) {
-        self.title = title;
-        self.words.clear();
-        self.wanted.clear();
-    }
-
-    /// Adds a word of the command line.
-    fn put_word(&mut self, alloc: Global, word: &str) -> Result<(), Memory> {
-        if self.words.is_empty() {
-            self.words.push(String::from_str(alloc, "buckfleet")?)?;
-        }
-        self.words.push(String::from_str(alloc, word)?)?;
-        Ok(())
-    }
-
     /// Begins a file that the words may name, in the place of the one that has its name.
     fn begin_file(&mut self, alloc: Global, name: &str) -> Result<(), Memory> {
-        self.part = Part::File;
-        self.inputs.files.retain(|file| file.name.as_str() != name);
+        for (at, file) in self.inputs.files.iter_mut().enumerate() {
+            if file.name.as_str() == name {
+                file.bytes.clear();
+                self.part = Part::File(at);
+                return Ok(());
+            }
+        }
+        self.part = Part::File(self.inputs.files.len());
         self.inputs.files.push(Named {
             name: String::from_str(alloc, name)?,
             bytes: Vec::new(alloc),
@@ -209,7 +198,7 @@ impl<'a> Case<'a> {
             Part::Apt => put_line(&mut self.inputs.apt, line),
             Part::Stm => put_line(&mut self.inputs.stm, line),
             Part::Jrn => put_line(&mut self.inputs.jrn, line),
-            Part::File => match self.inputs.files.last_mut() {
+            Part::File(at) => match self.inputs.files.get_mut(at) {
                 None => Ok(false),
                 Some(file) => put_line(&mut file.bytes, line),
             },
@@ -259,7 +248,10 @@ impl<'a> Case<'a> {
             return self.put(bytes);
         }
         if let Some(word) = line.strip_prefix("word ") {
-            self.put_word(alloc, word)?;
+            if self.words.is_empty() {
+                self.words.push(String::from_str(alloc, "buckfleet")?)?;
+            }
+            self.words.push(String::from_str(alloc, word)?)?;
             return Ok(true);
         }
         if let Some(name) = line.strip_prefix("file ") {

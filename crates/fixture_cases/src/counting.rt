@@ -69,7 +69,12 @@ pub fn read_line<'a>(
     count: &mut Count,
 ) -> Result<(), Memory> {
     match line.strip_prefix("== ") {
-        Some(title) => case.begin(title),
+        // The files of the next case are those of the case before; it has no words and wants nothing yet.
+        Some(title) => {
+            case.title = title;
+            case.words.clear();
+            case.wanted = Outcome::none(alloc);
+        }
         None => {
             if !case.read(alloc, line)? {
                 count.tell(line)?;

@@ -25,14 +25,6 @@ impl Outcome {
         }
     }
 
-    /// The same again.
-    pub fn clear(&mut self) {
-        self.text.clear();
-        self.journal.clear();
-        self.line.clear();
-        self.status = 0;
-    }
-
     /// Whether all that is written and the status are those of another.
     pub fn is_same(&self, other: &Outcome) -> bool {
         self.status == other.status

@@ -15,7 +15,7 @@ use std::sync::{Arc, Wait};
 use std::thread::Threads;
 
 /// Why there is no closed fleet at the end of a day, or not all stems were cut.
-#[derive(Clone, Copy, PartialEq, Eq, Debug, Drop)]
+#[derive(Debug, Drop)]
 pub enum DayFault {
     Open(OpenFault),
     Run(RunFault),

@@ -2,8 +2,8 @@
 ghost use Rattle.buck_rule.specs.Stored.{AllAnswer};
 
 use crate::callers::{DayFault, Evening, till_evening};
-use buck_book_postings::{Demand, Entry, Posting};
-use buck_fleet::{Closed, Gate, RunFault};
+use buck_book_postings::Posting;
+use buck_fleet::{Closed, Gate};
 use buck_rule::{Rule, Standing, steady};
 use buck_stem::Stem;
 use buck_value::{Log, Sheet};
@@ -96,42 +96,26 @@ pub fn steady_evening<R: Threads + Wait + Sync, G: Gate + Sync>(
     saw_evening(rt, alloc, rule, (1, 0, capacity), lists, gate)
 }
 
-/// Refuses a run in which an allocation failed.
-pub fn with_memory_to_run(evening: Evening) -> Result<Evening, Fail> {
-    match evening.stopped {
-        Some(RunFault::Memory) => Err(Fail::from(RunFault::Memory)),
-        _ => Ok(evening),
-    }
-}
-
-/// Whether an entry is this one, of harvester 1.
-fn is_one_log(entry: &Entry, number: usize, want: &OneLog) -> bool {
-    let log = Log {
-        start: 0,
-        length: want.1,
-        assortment: 0,
-    };
-    entry.harvester == 1
-        && entry.number as usize == number
-        && entry.version == want.0
-        && entry.cutting.logs.as_slice() == [log].as_slice()
-        && entry.worth == want.2
-}
-
-/// Whether a demand is this one, of harvester 1.
-fn is_demand(demand: &Demand, number: usize, version: u32, targets: &[u32]) -> bool {
-    demand.harvester == 1
-        && demand.number as usize == number
-        && demand.version == version
-        && demand.targets.as_slice() == targets
-}
-
 /// Whether a posting is this one, of harvester 1.
 fn is_wanted(posting: &Posting, number: usize, want: &Want) -> bool {
     match (posting, want) {
-        (Posting::Cut(entry), Want::Cut(one)) => is_one_log(entry, number, one),
+        (Posting::Cut(entry), Want::Cut(one)) => {
+            let log = Log {
+                start: 0,
+                length: one.1,
+                assortment: 0,
+            };
+            entry.harvester == 1
+                && entry.number as usize == number
+                && entry.version == one.0
+                && entry.cutting.logs.as_slice() == [log].as_slice()
+                && entry.worth == one.2
+        }
         (Posting::Demand(demand), Want::Demand(version, targets)) => {
-            is_demand(demand, number, *version, targets.as_slice())
+            demand.harvester == 1
+                && demand.number as usize == number
+                && demand.version == *version
+                && demand.targets.as_slice() == targets.as_slice()
         }
         _ => false,
     }

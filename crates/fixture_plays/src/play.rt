@@ -37,7 +37,7 @@ pub enum Do<'a> {
 }
 
 /// Why a play didn't come to its end.
-#[derive(Clone, Copy, PartialEq, Eq, Debug, Drop)]
+#[derive(Debug, Drop)]
 pub enum PlayFault {
     Open(OpenFault),
     /// An allocation failed in a call.

@@ -18,7 +18,7 @@ fn rest(turn: u64) {
 }
 
 /// What a call answered.
-#[derive(Clone, Copy, PartialEq, Eq, Debug, Drop)]
+#[derive(Clone, Copy, PartialEq, Drop)]
 pub enum Told {
     /// A stem was cut: position, attempts and path.
     Cut(u32, u8, Path),

@@ -26,16 +26,10 @@ pub fn saw_play<F: Fn(&Standing) -> u64 + Drop + Send, R: Threads + Wait + Sync>
 {
     let instruction = saw_instruction(alloc, saw.0, saw.1, "1 1 1 1")?;
     let closed = played(rt, alloc, instruction, rule, saw.2, lists, stage)?;
-    with_memory(stage)?;
-    Ok(closed)
-}
-
-/// Refuses a play in which an allocation failed in a call.
-pub fn with_memory(stage: &Stage) -> Result<(), Fail> {
     if stage.is_short() {
         return Err(Fail::from(PlayFault::Memory));
     }
-    Ok(())
+    Ok(closed)
 }
 
 /// A play of several harvesters, with this period and prices that stay.

@@ -34,30 +34,24 @@ pub fn edited(alloc: Global, text: &str, old: &str, new: &str) -> Result<String,
     Ok(format!(in alloc; "{before}{new}{after}")?)
 }
 
-/// The text of the saw instruction with this period in stems, this limit per mille and these targets, a space between
-/// two.
-pub fn saw_text(alloc: Global, period: u32, limit: u32, targets: &str) -> Result<String, Fail> {
-    Ok(format!(in alloc;
-        "1 2 APT~901 1 100~902 1 {period}~903 1 {limit}~910 1 1~
-911 1 saw~912 1 1~913 1 1~914 1 1~915 1 100 200~915 2 400~
-916 1 3000 4000~917 1 400 500 600 800~918 1 {targets}~"
-    )?)
-}
-
 /// The instruction of a text.
 pub fn instruction_of(alloc: Global, text: &str) -> Result<Arc<Instruction>, Fail> {
     let instruction = read_apt(alloc, text.as_bytes())?;
     Ok(Arc::new(alloc, instruction)?)
 }
 
-/// The saw instruction with this period in stems, this limit per mille and these targets.
+/// The saw instruction with this period in stems, this limit per mille and these targets, a space between two.
 pub fn saw_instruction(
     alloc: Global,
     period: u32,
     limit: u32,
     targets: &str,
 ) -> Result<Arc<Instruction>, Fail> {
-    let text = saw_text(alloc, period, limit, targets)?;
+    let text = format!(in alloc;
+        "1 2 APT~901 1 100~902 1 {period}~903 1 {limit}~910 1 1~
+911 1 saw~912 1 1~913 1 1~914 1 1~915 1 100 200~915 2 400~
+916 1 3000 4000~917 1 400 500 600 800~918 1 {targets}~"
+    )?;
     instruction_of(alloc, text.as_str())
 }
 

@@ -131,7 +131,10 @@ pub fn outcome_of_words<T: Threads + Wait + Sync>(
         known: shelf,
     };
     let screen: Option<Screen<Sheet<'_>, Still>> = None;
-    let words = words.clone().map_err(|_| ErrorKind::OutOfMemory);
+    let words = match words.clone() {
+        Ok(words) => Ok(words),
+        Err(_) => Err(ErrorKind::OutOfMemory),
+    };
     let status = run(rt, alloc, &words, place, screen, &mut streams);
     Outcome {
         text: streams.output,

@@ -26,7 +26,7 @@ fn run_all<'a, T: Threads + Wait + Sync>(
     count: &mut Count,
 ) -> Result<(), Memory> {
     for line in text.lines() {
-        if case.ends_before(line) {
+        if case.is_begun() && line.starts_with("== ") {
             run_case(rt, alloc, case, count)?;
         }
         read_line(alloc, line, case, count)?;

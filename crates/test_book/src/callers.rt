@@ -10,25 +10,6 @@ use buck_stem::Stem;
 use std::alloc::Global;
 use std::sync::Arc;
 
-/// Commits two plans, one after the other, for harvesters 1 and 2.
-pub fn commit_both<F: Fn(&Standing) -> u64>(
-    alloc: Global,
-    book: &mut Book<F>,
-    first: Plan,
-    second: Plan,
-) -> Result<(Entry, Entry), Refusal>
-    requires { Answers F.Fn book.old.rule }
-    ensures rule { book.new.rule ≡ book.old.rule }
-    ensures postings { IfOk result (λ both.
-        book.new.history.postings ≡ (book.old.history.postings ++ Posting.Cut both.0 ∷ []) ++ Posting.Cut both.1 ∷ []) }
-{
-    let ready = book.prepare(alloc, &first)?;
-    let one = book.commit(ready, 1, first);
-    let ready = book.prepare(alloc, &second)?;
-    let two = book.commit(ready, 2, second);
-    Ok((one, two))
-}
-
 /// A plan for a stem under the sheet in force.
 pub fn plan_for<F: Drop>(alloc: Global, book: &Book<F>, stem: &Arc<Stem>) -> Result<Plan, Refusal>
     ensures { IfOk result (λ plan. (plan.sheet ≡ in_force book.now.history) × (plan.stem ≡ stem.now.value)) }

@@ -1,7 +1,7 @@
 //! Books of a short saw instruction, and what is expected of them.
 use buck_apt_instruction::Instruction;
 use buck_book_postings::Book;
-use buck_book_text::journal_text;
+use buck_book_writer::journal_text;
 use buck_stem::Stem;
 use fixture_samples::{instruction_of, uniform_stem};
 use std::alloc::Global;

@@ -15,7 +15,7 @@ const ROOM: usize = 131_072;
 const DIAMETERS: usize = 41;
 
 /// Whether a second file is one of stems, which are cut, or a journal, which is checked.
-#[derive(Clone, Copy, PartialEq, Eq)]
+#[derive(Clone, Copy)]
 enum Work {
     Bucking,
     Check,
@@ -46,7 +46,7 @@ fn put_cut(text: &mut String, alloc: Global, stem: usize) -> Result<(), Fail> {
 /// The second file: so many stems, each with a number of its own, or the journal of their cuts by one harvester under base
 /// prices.
 fn file_of(alloc: Global, work: Work, stems: usize) -> Result<String, Fail> {
-    let is_check = work == Work::Check;
+    let is_check = matches!(work, Work::Check);
     let head = if is_check { "1 2 JRN~\n" } else { "1 2 STM~\n" };
     let mut text = String::from_str(alloc, head)?;
     if is_check {
@@ -167,7 +167,7 @@ fn goes_on<T: Threads + Sync>(
     files: (&[u8], &[u8]),
     text: &[u8],
 ) -> Result<(), Fail> {
-    if work == Work::Check && text != b"LAWFUL 129\n".as_slice() {
+    if matches!(work, Work::Check) && text != b"LAWFUL 129\n".as_slice() {
         return Err(Fail::from("the journal of 129 cuts isn't lawful"));
     }
     if !is_refused(rt, alloc, work, files, text)? {

@@ -3,7 +3,7 @@ use std::io;
 use std::io::{Error, ErrorKind};
 
 /// What happens at one call of a reader or a writer, the first call being number 1. Afterwards it would go on.
-#[derive(Clone, Copy, PartialEq, Eq, Debug, Drop)]
+#[derive(Clone, Copy)]
 pub enum Trouble {
     Nothing,
     /// The call fails.

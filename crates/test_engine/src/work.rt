@@ -69,7 +69,7 @@ pub fn apt_and_stm() -> (&'static str, &'static str) {
 }
 
 /// An engine.
-#[derive(Clone, Copy, PartialEq, Eq, Debug, Drop)]
+#[derive(Clone, Copy, Debug)]
 pub enum Engine {
     /// Over one input.
     Bare,
@@ -154,7 +154,7 @@ impl Engine {
         text: &mut Sink,
     ) -> Result<(), EngineFault> {
         let rule = Rule::new(|s: &Standing| step(s));
-        if self == Engine::Turns {
+        if matches!(self, Engine::Turns) {
             run_in_turn(alloc, apt, stms, rule, Some(journal), text)
         } else {
             run_fleet_files(rt, alloc, apt, stms, rule, Some(journal), text)

@@ -6,6 +6,8 @@
 #[cfg(test)]
 mod cursors;
 #[cfg(test)]
+mod draws;
+#[cfg(test)]
 mod items;
 #[cfg(test)]
 mod long_files;

@@ -112,7 +112,11 @@ fn plan_of_another_fleet(rt: HostRuntime) -> Result<(), Fail> {
 /// A run of two lists of ten stems with a capacity of five.
 fn short_run<R: Threads + Wait + Sync>(rt: &R, alloc: Global) -> Result<Evening, Fail> {
     let lists = lists_of(alloc, 2, 10, 41)?;
-    with_memory_to_run(steady_evening(rt, alloc, 5, lists.as_slice(), &NoGate)?)
+    let evening = steady_evening(rt, alloc, 5, lists.as_slice(), &NoGate)?;
+    match evening.stopped {
+        Some(RunFault::Memory) => Err(Fail::from(RunFault::Memory)),
+        _ => Ok(evening),
+    }
 }
 
 /// Whether it is stopped as `Full`, and the fleet closes well with what was cut.

@@ -20,42 +20,26 @@ pub fn board_open<R: Wait>(
     Board::open(rt, alloc, seats, base)
 }
 
-/// `buck_board::Board::put_up`.
-pub fn board_put_up<R: Wait>(
-    board: &Board,
+/// `buck_board::BoardSeat::seen`; `buck_board::Board`: `put_up`, `raise` and `read`.
+pub fn board_seat<'a, R: Wait>(
+    board: &'a Board,
     rt: &R,
     alloc: Global,
+    seat: &mut BoardSeat,
     sheet: Arc<Sheet>,
-) -> Result<(), Memory> {
-    board.put_up(rt, alloc, sheet)
-}
-
-/// `buck_board::Board::raise`.
-pub fn board_raise(board: &Board, seat: &mut BoardSeat, version: u32)
+    version: u32,
+) -> Option<Snapshot<'a>>
     requires { IsSeatOf board.now seat.old }
 {
-    board.raise(seat, version);
-}
-
-/// `buck_board::BoardSeat::seen`.
-pub fn board_seat_seen(seat: &BoardSeat) -> u32 {
-    seat.seen()
-}
-
-/// `buck_board::Board::read`.
-pub fn board_read<'a>(board: &'a Board, seat: &mut BoardSeat) -> Option<Snapshot<'a>>
-    requires { IsSeatOf board.now seat.old }
-{
+    let _seen: u32 = seat.seen();
+    let _put_up: Result<(), Memory> = board.put_up(rt, alloc, sheet);
+    board.raise(&mut *seat, version);
     board.read(seat)
 }
 
-/// `buck_board::Snapshot::version`.
-pub fn snapshot_version<'a>(snapshot: &Snapshot<'a>) -> u32 {
-    snapshot.version()
-}
-
-/// `buck_board::Snapshot::sheet`.
-pub fn snapshot_sheet<'a>(snapshot: &Snapshot<'a>) -> &'a Arc<Sheet> {
+/// `buck_board::Snapshot`: `version` and `sheet`.
+pub fn snapshot<'a>(snapshot: &Snapshot<'a>) -> &'a Arc<Sheet> {
+    let _version: u32 = snapshot.version();
     snapshot.sheet()
 }
 

@@ -6,19 +6,16 @@ use buck_stem::Stem;
 use buck_value::Sheet;
 use std::alloc::Global;
 
-/// `buck_dp::best`.
-pub fn best(alloc: Global, sheet: &Sheet, stem: &Stem) -> Result<(Cutting, u64), Memory> {
-    buck_dp::best(alloc, sheet, stem)
-}
-
-/// `buck_dp::admissible`.
-pub fn admissible(sheet: &Sheet, stem: &Stem, cutting: &Cutting) -> bool {
-    buck_dp::admissible(sheet, stem, cutting)
-}
-
-/// `buck_dp::worth`.
-pub fn worth(sheet: &Sheet, stem: &Stem, cutting: &Cutting) -> u64
+/// `buck_dp`: `admissible`, `worth` and `best`.
+pub fn best(
+    alloc: Global,
+    sheet: &Sheet,
+    stem: &Stem,
+    cutting: &Cutting,
+) -> Result<(Cutting, u64), Memory>
     requires { IsAdmissible sheet.now stem.now cutting.now.logs.items }
 {
-    buck_dp::worth(sheet, stem, cutting)
+    let _is_admissible: bool = buck_dp::admissible(sheet, stem, cutting);
+    let _worth: u64 = buck_dp::worth(sheet, stem, cutting);
+    buck_dp::best(alloc, sheet, stem)
 }

@@ -33,43 +33,31 @@ pub fn fleet_open<F: Fn(&Standing) -> u64 + Drop, L: Ledger, R: Wait>(
     Fleet::open(rt, alloc, blank, instruction, rule, seats, capacity)
 }
 
-/// `buck_fleet::Seat::harvester`.
-pub fn seat_harvester<L: Ledger>(seat: &Seat<L>) -> u32 {
-    seat.harvester()
-}
-
-/// `buck_fleet::Seat::seen`.
-pub fn seat_seen<L: Ledger>(seat: &Seat<L>) -> u32 {
-    seat.seen()
-}
-
-/// `buck_fleet::Seat::kept`.
-pub fn seat_kept<L: Ledger>(seat: &Seat<L>) -> &[Kept] {
-    seat.kept()
-}
-
-/// `buck_fleet::Fleet::snapshot`.
-pub fn fleet_snapshot<'a, F, L: Ledger>(
-    fleet: &'a Fleet<F, L>,
-    seat: &mut Seat<L>,
-) -> Option<Snapshot<'a>>
+/// `buck_fleet::Seat`: `harvester`, `seen` and `kept`; `buck_fleet::Fleet::snapshot`.
+pub fn seat<'a, F, L: Ledger>(fleet: &'a Fleet<F, L>, seat: &mut Seat<L>) -> Option<Snapshot<'a>>
     requires seat { IsSeatIn fleet.now seat.old }
 {
+    let _harvester: u32 = seat.harvester();
+    let _seen: u32 = seat.seen();
+    let _kept: &[Kept] = seat.kept();
     fleet.snapshot(seat)
 }
 
-/// `buck_fleet::Fleet::try_commit`.
-pub fn fleet_try_commit<F: Fn(&Standing) -> u64 + Drop, L: Ledger, R: Wait>(
+/// `buck_fleet::Fleet`: `try_commit` and `retarget`.
+pub fn fleet_commits<F: Fn(&Standing) -> u64 + Drop, L: Ledger, R: Wait>(
     fleet: &Fleet<F, L>,
     rt: &R,
     alloc: Global,
     seat: &mut Seat<L>,
     plan: Plan,
-) -> Result<Reply, TryFault>
+    targets: Arc<Vec<u32>>,
+) -> (Result<Reply, TryFault>, Result<DemandReply, RetargetFault>)
     requires answers { AllAnswer F.Fn }
     requires seat { IsSeatIn fleet.now seat.old }
 {
-    fleet.try_commit(rt, alloc, seat, plan)
+    let committed = fleet.try_commit(rt, alloc, &mut *seat, plan);
+    let demanded = fleet.retarget(rt, alloc, seat, targets);
+    (committed, demanded)
 }
 
 /// `buck_fleet::Fleet::cut`.
@@ -85,20 +73,6 @@ pub fn fleet_cut<F: Fn(&Standing) -> u64 + Drop, L: Ledger, R: Wait, G: Gate>(
     requires seat { IsSeatIn fleet.now seat.old }
 {
     fleet.cut(rt, alloc, seat, stem, gate)
-}
-
-/// `buck_fleet::Fleet::retarget`.
-pub fn fleet_retarget<F: Fn(&Standing) -> u64 + Drop, L: Ledger, R: Wait>(
-    fleet: &Fleet<F, L>,
-    rt: &R,
-    alloc: Global,
-    seat: &mut Seat<L>,
-    targets: Arc<Vec<u32>>,
-) -> Result<DemandReply, RetargetFault>
-    requires answers { AllAnswer F.Fn }
-    requires seat { IsSeatIn fleet.now seat.old }
-{
-    fleet.retarget(rt, alloc, seat, targets)
 }
 
 /// `buck_fleet::run_fleet`.

@@ -7,32 +7,24 @@ use buck_value::Sheet;
 use std::alloc::Global;
 use std::sync::Arc;
 
-/// `buck_book::journal_text`.
-pub fn journal_text(
+/// `buck_book`: `replay`, `read_journal`, `journal_text`, and `laws::what_is_written_is_read`.
+pub fn journals(
     alloc: Global,
-    sheets: &[Arc<Sheet>],
-    postings: &[Posting],
-) -> Result<Vec<u8>, Memory> {
-    buck_book::journal_text(alloc, sheets, postings)
-}
-
-/// `buck_book::read_journal`.
-pub fn read_journal(alloc: Global, bytes: &[u8]) -> Result<Journal, JournalFault> {
-    buck_book::read_journal(alloc, bytes)
-}
-
-/// `buck_book::replay`.
-pub fn replay(
-    alloc: Global,
+    bytes: &[u8],
     instruction: &Arc<Instruction>,
     journal: &Journal,
-) -> Result<(), ReplayFault>
+    sheets: &[Arc<Sheet>],
+    postings: &[Posting],
+) -> (
+    Result<Journal, JournalFault>,
+    Result<(), ReplayFault>,
+    Result<Vec<u8>, Memory>,
+)
     requires { length journal.now.entries ≤ 1000000 }
 {
-    buck_book::replay(alloc, instruction, journal)
-}
-
-/// `buck_book::laws::what_is_written_is_read`.
-pub fn what_is_written_is_read() {
     laws::what_is_written_is_read();
+    let read = buck_book::read_journal(alloc, bytes);
+    let replayed = buck_book::replay(alloc, instruction, journal);
+    let text = buck_book::journal_text(alloc, sheets, postings);
+    (read, replayed, text)
 }

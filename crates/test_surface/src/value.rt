@@ -10,53 +10,35 @@ use buck_value::{Log, Memory, Prepared, Sheet, SheetFault};
 use std::alloc::Global;
 use std::sync::Arc;
 
-/// `buck_value::Sheet::base`.
-pub fn sheet_base(alloc: Global, instruction: Arc<Instruction>) -> Result<Sheet, Memory> {
-    Sheet::base(alloc, instruction)
-}
-
-/// `buck_value::Sheet::with_prices`.
-pub fn sheet_with_prices(
+/// `buck_value::Sheet`: `base` and `with_prices`.
+pub fn sheets(
+    alloc: Global,
     instruction: Arc<Instruction>,
+    other: Arc<Instruction>,
     version: u32,
     prices: Vec<u32>,
-) -> Result<Sheet, SheetFault> {
-    Sheet::with_prices(instruction, version, prices)
+) -> (Result<Sheet, Memory>, Result<Sheet, SheetFault>) {
+    let base = Sheet::base(alloc, instruction);
+    let priced = Sheet::with_prices(other, version, prices);
+    (base, priced)
 }
 
-/// `buck_value::Sheet::version`.
-pub fn sheet_version(sheet: &Sheet) -> u32 {
-    sheet.version()
-}
-
-/// `buck_value::Sheet::price`.
-pub fn sheet_price(sheet: &Sheet, class: Class) -> u32
+/// `buck_value::Sheet`: `version`, `price` and `same`.
+pub fn sheet(sheet: &Sheet, class: Class, other: &Sheet)
     requires { IsClass sheet.now.instruction class }
 {
-    sheet.price(class)
+    let _version: u32 = sheet.version();
+    let _price: u32 = sheet.price(class);
+    let _is_same: bool = sheet.same(other);
 }
 
-/// `buck_value::Sheet::same`.
-pub fn sheet_same(sheet: &Sheet, other: &Sheet) -> bool {
-    sheet.same(other)
-}
-
-/// `buck_value::class_of`.
-pub fn class_of(
-    sheet: &Sheet,
-    stem: &Stem,
-    start: u32,
-    assortment: u8,
-    length: u32,
-) -> Option<Class> {
-    buck_value::class_of(sheet, stem, start, assortment, length)
-}
-
-/// `buck_value::log_worth`.
-pub fn log_worth(sheet: &Sheet, stem: &Stem, log: &Log) -> u64
+/// `buck_value`: `class_of` and `log_worth`.
+pub fn log(sheet: &Sheet, stem: &Stem, log: &Log)
     requires { IsAllowed sheet.now.instruction stem.now log.now }
 {
-    buck_value::log_worth(sheet, stem, log)
+    let (start, assortment, length): (u32, u8, u32) = (log.start, log.assortment, log.length);
+    let _class: Option<Class> = buck_value::class_of(sheet, stem, start, assortment, length);
+    let _worth: u64 = buck_value::log_worth(sheet, stem, log);
 }
 
 /// `buck_value::Prepared::make`.
@@ -68,30 +50,12 @@ pub fn prepared_make<'s, 't>(
     Prepared::make(alloc, sheet, stem)
 }
 
-/// `buck_value::Prepared::class`.
-pub fn prepared_class<'s, 't>(
-    prepared: &Prepared<'s, 't>,
-    i: usize,
-    assortment: usize,
-    column: usize,
-) -> Option<Class>
+/// `buck_value::Prepared`: `class` and `worth`.
+pub fn prepared<'s, 't>(prepared: &Prepared<'s, 't>, i: usize, assortment: usize, column: usize)
     requires i { i < points_of prepared.now }
     requires assortment { assortment < length prepared.now.sheet.instruction.assortments }
     requires column { column < length (lengths_of prepared.now assortment) }
 {
-    prepared.class(i, assortment, column)
-}
-
-/// `buck_value::Prepared::worth`.
-pub fn prepared_worth<'s, 't>(
-    prepared: &Prepared<'s, 't>,
-    i: usize,
-    assortment: usize,
-    column: usize,
-) -> Option<u64>
-    requires i { i < points_of prepared.now }
-    requires assortment { assortment < length prepared.now.sheet.instruction.assortments }
-    requires column { column < length (lengths_of prepared.now assortment) }
-{
-    prepared.worth(i, assortment, column)
+    let _class: Option<Class> = prepared.class(i, assortment, column);
+    let _worth: Option<u64> = prepared.worth(i, assortment, column);
 }

@@ -35,58 +35,22 @@ pub fn world_step<F: Fn(&Standing) -> u64 + Drop>(
     world.step(alloc, event)
 }
 
-/// `buck_fleet::world::World::entries`.
-pub fn world_entries<F: Drop>(world: &World<F>) -> &[Posting] {
-    world.entries()
-}
-
-/// `buck_fleet::world::World::version`.
-pub fn world_version<F: Drop>(world: &World<F>) -> u32 {
-    world.version()
-}
-
-/// `buck_fleet::world::World::front`.
-pub fn world_front<F: Drop>(world: &World<F>) -> u32 {
-    world.front()
-}
-
-/// `buck_fleet::world::World::seen`.
-pub fn world_seen<F: Drop>(world: &World<F>, harvester: u32) -> u32
+/// `buck_fleet::world::World`: `entries`, `version`, `front`, `seen`, `stale` and `stage`.
+pub fn world<F: Drop>(world: &World<F>, harvester: u32)
     requires { IsHarvester world.now.world harvester }
 {
-    world.seen(harvester)
+    let _entries: &[Posting] = world.entries();
+    let _version: u32 = world.version();
+    let _front: u32 = world.front();
+    let _seen: u32 = world.seen(harvester);
+    let _stale: u32 = world.stale(harvester);
+    let _stage: &Stage = world.stage(harvester);
 }
 
-/// `buck_fleet::world::World::stale`.
-pub fn world_stale<F: Drop>(world: &World<F>, harvester: u32) -> u32
-    requires { IsHarvester world.now.world harvester }
-{
-    world.stale(harvester)
-}
-
-/// `buck_fleet::world::World::stage`.
-pub fn world_stage<F: Drop>(world: &World<F>, harvester: u32) -> &Stage
-    requires { IsHarvester world.now.world harvester }
-{
-    world.stage(harvester)
-}
-
-/// `buck_fleet::world::laws::every_history`.
-pub fn every_history() {
+/// `buck_fleet::world::laws`: `every_history`, `every_world`, `every_read` and `every_fresh_run`.
+pub fn laws_of_worlds() {
     laws::every_history();
-}
-
-/// `buck_fleet::world::laws::every_world`.
-pub fn every_world() {
     laws::every_world();
-}
-
-/// `buck_fleet::world::laws::every_read`.
-pub fn every_read() {
     laws::every_read();
-}
-
-/// `buck_fleet::world::laws::every_fresh_run`.
-pub fn every_fresh_run() {
     laws::every_fresh_run();
 }

@@ -74,16 +74,6 @@ pub fn empty_cutting_refused(alloc: Global, sheet: &Sheet, stem: &Stem) {
     prove!(right != wrong);
 }
 
-/// A cutting of no log is worth one.
-pub fn worth_of_no_log_is_one(alloc: Global, sheet: &Sheet, stem: &Stem) {
-    let none = Cutting {
-        logs: Vec::new(alloc),
-    };
-    let right = worth(sheet, stem, &none);
-    let wrong = 1;
-    prove!(right != wrong);
-}
-
 /// A cutting of no log has no worth.
 pub fn cutting_of_no_log_without_worth(alloc: Global, sheet: &Sheet, stem: &Stem) {
     let none = Cutting {

@@ -1,5 +1,5 @@
 //! Wrong answers about sheets, about which logs are allowed, and about their classes and worths.
-ghost use Rattle.std.specs.Prelude.{◌≡◌, ◌≢◌, ◌+◌, ◌*◌, ◌<◌, ◌≤◌, ◌%◌, ◌/◌, [], ◌∷◌, length, slice_index, slice_get, Some, Contains};
+ghost use Rattle.std.specs.Prelude.{◌≡◌, ◌≢◌, ◌+◌, ◌*◌, ◌<◌, ◌≤◌, ◌%◌, [], ◌∷◌, length, slice_index, slice_get, Some, Contains};
 ghost use Rattle.std.specs.Int.{bit_at};
 ghost use Rattle.std.specs.Option.{option_map};
 ghost use Rattle.buck_apt_instruction.specs.Instruction.{IsClass, classes, index_of};
@@ -260,35 +260,6 @@ pub fn class_by_butt_or_raw_sample_butt(sheet: &Sheet, stem: &Stem, log: &Log)
     };
     let right = class.row as usize;
     let wrong = row_of(assortment, stem.diameter_at(log.start));
-    prove!(right != wrong);
-}
-
-/// The row of a log is that of the sample where it ends, though an earlier one is less.
-pub fn class_by_butt_or_raw_sample_sample(sheet: &Sheet, stem: &Stem, log: &Log, sample: u32)
-    requires sample { sample ≡ slice_index stem.now.samples (top_of log.now / 100) }
-    requires rows { ItsAssortment sheet.now log.now (λ a. AreOfTwoRows a sample (top_diameter stem.now log.now)) }
-{
-    let Some(class) = class_of(sheet, stem, log.start, log.assortment, log.length) else {
-        return;
-    };
-    let Some(assortment) = assortment_of(sheet, log) else {
-        return;
-    };
-    let right = class.row as usize;
-    let wrong = row_of(assortment, sample);
-    prove!(right != wrong);
-}
-
-/// The column of a log is the half of its place among the lengths.
-pub fn column_too_low(sheet: &Sheet, stem: &Stem, log: &Log)
-    requires lengths { ItsAssortment sheet.now log.now (λ a. a.lengths ≡ 3000 ∷ log.now.length ∷ []) }
-    requires longer { 3000 < log.now.length }
-{
-    let Some(class) = class_of(sheet, stem, log.start, log.assortment, log.length) else {
-        return;
-    };
-    let right = class.column;
-    let wrong = 0;
     prove!(right != wrong);
 }
 

@@ -7,7 +7,7 @@ use Rattle.buck_record.specs.bytes.White.{trim_start, trim_end, first_word, afte
 use Rattle.buck_book_postings.specs.declared.posting.Posting.{Posting}
 use Rattle.buck_book_postings.specs.declared.posting.Posting.TheVariants.{Demand}
 use Rattle.buck_book_journal.specs.declared.journal_fault.JournalFault.TheVariants.{Digits}
-use Rattle.buck_book_text.specs.reading.Journal.{journal_of, journal_in, sheets_from, postings_from, posting_at, cut_at, demand_at, call_at, stem_at, item_at, worth_at, numbers_at}
+use Rattle.buck_book_journal.specs.Reading.{journal_of, journal_in, sheets_from, postings_from, posting_at, cut_at, demand_at, call_at, stem_at, item_at, worth_at, numbers_at}
 
 pub range_before_digits : journal_of (codes "1 2 JRN~971 1 20000001 x~") ≡ Err (Digits 2)
 unfolding journal_of journal_in sheets_from postings_from posting_at cut_at demand_at call_at stem_at item_at worth_at

@@ -5,7 +5,7 @@ ghost use Rattle.buck_rule.specs.Stored.{Answers};
 ghost use Rattle.buck_value.specs.Allowed.{IsAllowed, worth_of};
 ghost use Rattle.buck_book_postings.specs.Posting.{opening_targets, targets_of, cuts_since_end};
 ghost use Rattle.buck_book_postings.specs.Targets.{AreTargets};
-ghost use Rattle.buck_book_postings.specs.Counts.{count_of, assortment_count_of, calls_of};
+ghost use Rattle.buck_book_postings.specs.Counts.{count_of, calls_of};
 ghost use Rattle.buck_book_postings.specs.History.{in_force, version_of};
 ghost use Rattle.buck_book_postings.specs.Book.{IsReadyFor, IsReadyDemand};
 ghost use Rattle.wrong_book.specs.Books.{IsNoAnswerWith, IsNoAnswerWithDemand};
@@ -45,16 +45,6 @@ pub fn sheet_of_an_earlier_version<F: Drop>(book: &Book<F>)
 {
     let right = book.sheet().version();
     let wrong = 1;
-    prove!(right != wrong);
-}
-
-/// The logs of the assortment are counted in the place of those of the class.
-pub fn count_of_the_assortment<F: Drop>(book: &Book<F>, class: Class, wrong: u32)
-    requires class { IsClass book.now.history.instruction class }
-    requires wrong { wrong ≡ assortment_count_of class.assortment book.now.history.postings }
-    requires differ { wrong ≢ count_of book.now.history.instruction class book.now.history.postings }
-{
-    let right = book.count(class);
     prove!(right != wrong);
 }
 
@@ -425,26 +415,6 @@ pub fn commit_replaces_entry<F: Drop>(
     };
     let right = found.same(other);
     let wrong = true;
-    prove!(right != wrong);
-}
-
-/// An entry is answered, and none is added.
-pub fn commit_adds_nothing<F: Drop>(book: &mut Book<F>, ready: Ready, plan: Plan)
-    requires { IsReadyFor book.old ready plan }
-{
-    let wrong = book.len();
-    let _entry = book.commit(ready, 1, plan);
-    let right = book.len();
-    prove!(right != wrong);
-}
-
-/// A demand replaces the last posting.
-pub fn demand_replaces_posting<F: Drop>(book: &mut Book<F>, ready: ReadyDemand)
-    requires { IsReadyDemand book.old ready }
-{
-    let wrong = book.len();
-    let _demand = book.commit_demand(ready, 1);
-    let right = book.len();
     prove!(right != wrong);
 }
 

@@ -1,6 +1,6 @@
 //! Wrong answers of the reader of journals.
 use buck_book_journal::JournalFault;
-use buck_book_text::{read_journal, read_journal_in_parts};
+use buck_book_reader::{read_journal, read_journal_in_parts};
 use std::alloc::Global;
 use std::thread::Threads;
 

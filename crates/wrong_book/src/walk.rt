@@ -1,7 +1,6 @@
 //! Wrong answers of a way through the postings of a history.
 ghost use Rattle.std.specs.Prelude.{◌≡◌, ◌<◌, [], ◌∷◌, length};
 ghost use Rattle.buck_apt_instruction.specs.Instruction.{classes};
-ghost use Rattle.buck_book_postings.specs.Posting.{cuts_since_end};
 ghost use Rattle.buck_book_postings.specs.Counts.{calls_of};
 ghost use Rattle.buck_book_postings.specs.History.{PricesMeet};
 ghost use Rattle.buck_book_postings.specs.Targets.{AreTargets};
@@ -23,15 +22,6 @@ pub fn begins_after_a_cut(alloc: Global, instruction: &Instruction) -> Result<()
     let wrong = false;
     prove!(right != wrong);
     Ok(())
-}
-
-/// A period begins within a period.
-pub fn begins_at_each_posting(walk: &Walk<'_>)
-    requires { cuts_since_end walk.now.instruction (passed walk.now) ≡ 1 }
-{
-    let right = walk.begins_period();
-    let wrong = true;
-    prove!(right != wrong);
 }
 
 /// The first posting comes again after it was passed.

@@ -2,7 +2,7 @@
 ghost use Rattle.std.specs.Prelude.{◌≢◌, ◌<◌, ◌≤◌};
 ghost use Rattle.buck_rule.specs.Stored.{Answers};
 ghost use Rattle.buck_book_postings.specs.Refused.{IsBelow};
-ghost use Rattle.buck_book_text.specs.Written.{journal_text};
+ghost use Rattle.buck_book_journal.specs.Written.{journal_text};
 
 use buck_book_cutter::Cutter;
 use buck_book_postings::{CutFault, Memory};

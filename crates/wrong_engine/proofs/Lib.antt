@@ -4,4 +4,7 @@ pub mod Missing
 pub mod Many
 pub mod Firsts
 pub mod Several
+pub mod Looked
+pub mod Refused
+pub mod Ruled
 pub mod Lent

@@ -2,7 +2,7 @@
 use Rattle.std.proofs.Common.{◌≡◌, ◌≢◌, ℕ, ◌<◌, ◌+◌, min, List, ◌++◌, length, take, sym, ◌∙◌, ap, refl, arith, length-append}
 use Rattle.std.proofs.lemmas.List.{append_cancel_left, append_cancel_right, length-take, take_all}
 use Rattle.buck_book_postings.specs.declared.posting.Posting.{Posting}
-use Rattle.buck_book_text.specs.Written.{journal_text}
+use Rattle.buck_book_journal.specs.Written.{journal_text}
 
 -- in what stands first
 pub unlike_front : (a b c x y : List ℕ) → x ≡ a ++ c → y ≡ b ++ c → b ≢ a → x ≡ y → ⊥

@@ -4,7 +4,7 @@ ghost use Rattle.buck_apt_instruction.specs.Instruction.{InstructionParts};
 ghost use Rattle.buck_stem.specs.Stem.{StemParts};
 ghost use Rattle.buck_stem.specs.file.Stm.{stm_of};
 ghost use Rattle.buck_book_journal.specs.Journal.{JournalParts, history_of};
-ghost use Rattle.buck_book_text.specs.reading.Journal.{journal_of};
+ghost use Rattle.buck_book_journal.specs.Reading.{journal_of};
 ghost use Rattle.buck_rule.specs.declared.named.NamedRule.TheVariants.{Linear};
 ghost use Rattle.buckfleet_engine_files.specs.Reading.{apt_with};
 ghost use Rattle.buckfleet_engine_files.specs.Ruled.{FollowsRule};
@@ -14,7 +14,7 @@ use crate::opened::Missing;
 use buck_rule::NamedRule;
 use buckfleet_engine::Settings;
 use buckfleet_engine_cross_check::{CheckTask, CrossCheck, run_check_with, serve_check};
-use buckfleet_engine_files::{CheckFault, EngineFault, Nobody, OneThread, status};
+use buckfleet_engine_files::{EngineFault, Nobody, OneThread};
 use std::alloc::Global;
 use std::thread::Threads;
 
@@ -148,17 +148,6 @@ pub fn stems_read_before_the_journal_is_refused<'x>(
     let is_read = stems[0].len() != stm.len();
     let is_wrong = is_read && matches!(outcome, Err(EngineFault::Journal(_)));
     prove!(!is_wrong);
-}
-
-/// Status 1, as after a refused file, if a stem wasn't cut.
-pub fn uncut_stem_as_a_refused_file() {
-    let wrong = 1;
-    let uncut = CheckFault::Uncut {
-        harvester: 1,
-        place: 1,
-    };
-    let right = status(&EngineFault::Check(uncut));
-    prove!(right != wrong);
 }
 
 /// The journal is opened first, in the place of the instruction file.

@@ -5,7 +5,7 @@ ghost use Rattle.buck_apt.specs.Apt.{apt_of};
 ghost use Rattle.buck_apt_instruction.specs.Settings.{own_numbers};
 ghost use Rattle.buck_book_postings.specs.History.{IsLawful};
 ghost use Rattle.buck_book_journal.specs.Journal.{JournalParts, history_of};
-ghost use Rattle.buck_book_text.specs.reading.Journal.{journal_of};
+ghost use Rattle.buck_book_journal.specs.Reading.{journal_of};
 ghost use Rattle.buckfleet_engine_files.specs.Reading.{apt_with};
 
 use crate::opened::Missing;

@@ -1,26 +1,10 @@
 //! Wrong bodies of instructions and their reader.
-
 ghost use Rattle.std.specs.Prelude.{◌≡◌, ◌≢◌, ◌<◌, ◌+◌, ◌*◌, length, slice_get, slice_index, sum};
 ghost use Rattle.buck_apt_instruction.specs.Instruction.{IsClass, classes, classes_before, place_in};
 
-use buck_apt::{AptFault, instruction_text, read_apt};
+use buck_apt::{instruction_text, read_apt};
 use buck_apt_instruction::{Assortment, Class, Instruction};
 use std::alloc::Global;
-
-/// A range is looked at before items that stand twice.
-#[tactic(auto, unfolding(buck_record::specs::bytes::Record::numbers_of, buck_record::specs::bytes::Record::number_at_most, buck_record::specs::bytes::Record::item_of, buck_record::specs::bytes::Record::items_of, buck_record::specs::bytes::White::words, buck_record::specs::bytes::White::first_word, buck_record::specs::bytes::White::after_word, buck_record::specs::bytes::White::trim_start, buck_record::specs::bytes::White::trim_end, buck_record::specs::Reading::each_from, buck_record::specs::checking::Table::rest_in, buck_record::specs::checking::Table::groups_of, buck_record::specs::checking::Rules::numbers_in, buck_record::specs::checking::Check::each, buck_record::specs::checking::Check::make_each, buck_apt::specs::Apt::apt_of, buck_apt::specs::Apt::draft_in, buck_apt::specs::Apt::within_limits, buck_apt::specs::Apt::group_present, buck_apt::specs::Apt::present, buck_apt::specs::Apt::group_single, buck_apt::specs::Apt::single, buck_apt::specs::Apt::numbers_or, buck_apt::specs::Apt::draft_of, buck_apt::specs::Apt::file_draft_of, buck_apt::specs::Apt::draft_range, buck_apt::specs::Apt::in_range, buck_apt::specs::Apt::draft_order, buck_apt::specs::Apt::in_order, buck_apt::specs::Apt::draft_count, buck_apt::specs::Apt::in_number, buck_apt::specs::Apt::on_module, buck_apt::specs::Apt::in_targets))]
-pub fn range_before_twice(alloc: Global) {
-    if let Err(fault) = read_apt(
-        alloc,
-        b"1 2 APT~901 1 5~901 1 5~902 1 7~903 1 500~910 1 1~911 1 SAW~912 1 1~913 1 1~914 1 2~915 1 100~915 2 900~916 1 3000~917 1 600~918 1 4~",
-    ) {
-        let wrong = AptFault::Range {
-            number: 901,
-            kind: 1,
-        };
-        prove!(fault != wrong);
-    }
-}
 
 /// An instruction has no assortment.
 pub fn assortments_are_none(instruction: &Instruction) {

@@ -18,8 +18,8 @@ use buck_record::rules::{
 use buck_record::table::{count, front, groups, missing, rest, twice};
 use buck_record::{
     FaultNumbers, FormFault, Group, Listed, Numbered, Piece, RecordFault, Slot, is_done, items,
-    next_in, next_of, number, numbers, numbers_into, pieces, pieces_at, put_after, put_line,
-    put_number, slot, two_parts, wide,
+    next_in, next_of, number, numbers, numbers_into, pieces_at, put_after, put_line, put_number,
+    slot, two_parts, wide,
 };
 use std::alloc::Global;
 
@@ -60,15 +60,6 @@ const TWO_OF_A_SLOT: [Piece<'static>; 3] = [
     },
 ];
 
-/// A piece of whitespace alone is taken for an item.
-pub fn pieces_empty_kept(alloc: Global) {
-    let right = pieces(alloc, b" ~1 2 APT");
-    if let Err(fault) = right {
-        let wrong = RecordFault::Head { item: 1 };
-        prove!(fault != wrong);
-    }
-}
-
 /// A refusal names the item by its place among those that were kept.
 pub fn pieces_at_counts_only_the_kept(alloc: Global) {
     let right = pieces_at(alloc, b"7 7 other~no head", &[FILE]);
@@ -76,34 +67,6 @@ pub fn pieces_at_counts_only_the_kept(alloc: Global) {
         let wrong = RecordFault::Head { item: 1 };
         prove!(fault != wrong);
     }
-}
-
-/// An item's number is its kind.
-pub fn items_kind_for_number(alloc: Global) {
-    let Ok(held) = items(alloc, b"915 2 900") else {
-        return;
-    };
-    if let Some(item) = held.first() {
-        let right = item.number;
-        let wrong = 2;
-        prove!(right != wrong);
-    }
-}
-
-/// The last of four digits is dropped.
-pub fn last_digit_of_short_words_dropped(alloc: Global) {
-    let Ok(right) = numbers(alloc, b"1234 5") else {
-        return;
-    };
-    let wrong: &[u32] = &[123, 5];
-    prove!(right.as_slice() != wrong);
-}
-
-/// A comma ends a word.
-pub fn is_white_comma_too() {
-    let right = number(b"7,");
-    let wrong: Result<u32, RecordFault> = Ok(7);
-    prove!(right != wrong);
 }
 
 /// A wide number is read up to 4,294,967,295 alone.

@@ -11,14 +11,6 @@ pub fn period_1001_taken() {
     prove!(right != wrong);
 }
 
-/// A limit of 0 is refused.
-pub fn limit_0_refused() {
-    let settings = Settings::of(None, Some(0));
-    let right = settings.is_some();
-    let wrong = false;
-    prove!(right != wrong);
-}
-
 /// The instruction keeps its own period.
 pub fn settings_left_out(instruction: Instruction, wrong: u32)
     requires own { wrong ≡ instruction.period }
@@ -26,16 +18,6 @@ pub fn settings_left_out(instruction: Instruction, wrong: u32)
 {
     if let Some(settings) = Settings::of(Some(7), None) {
         let right = instruction.with(&settings).period();
-        prove!(right != wrong);
-    }
-}
-
-/// The limit goes with the period that is put in.
-pub fn limit_lost(instruction: Instruction, wrong: u32)
-    requires differ { wrong ≢ instruction.limit }
-{
-    if let Some(settings) = Settings::of(Some(7), None) {
-        let right = instruction.with(&settings).limit();
         prove!(right != wrong);
     }
 }

@@ -1,8 +1,7 @@
 //! Wrong bodies of stems, their profiles and their reader.
-
 ghost use Rattle.std.specs.Int.{bit_at};
-ghost use Rattle.std.specs.Prelude.{◌≡◌, ◌≢◌, ◌<◌, ◌≤◌, ◌+◌, ◌-◌, ◌*◌, ◌/◌, [], ◌∷◌, IfSome};
-ghost use Rattle.buck_stem.specs.points.Profile.{IsMaskBetween, points_of, profile_of};
+ghost use Rattle.std.specs.Prelude.{◌≡◌, ◌≢◌, ◌<◌, ◌≤◌, ◌+◌, ◌-◌, ◌*◌, ◌/◌, [], IfSome};
+ghost use Rattle.buck_stem.specs.points.Profile.{IsMaskBetween, points_of};
 ghost use Rattle.buck_stem.specs.Stem.{stem_of, stem_length, diameter_at, grade_at, HasGrade};
 
 use buck_stem::{Profile, ProfileLists, Stem, StemFault, StmFault, read_stm, read_stm_in_parts};
@@ -126,16 +125,6 @@ pub fn diameter_of_the_raw_sample(alloc: Global) {
     prove!(right != wrong);
 }
 
-/// A zone begins after its start.
-pub fn grade_in_after_its_start(alloc: Global) {
-    let Some(stem) = stem(alloc, &[300, 290], &[(50, 2)]) else {
-        return;
-    };
-    let right = stem.grade_at(50);
-    let wrong = 1;
-    prove!(right != wrong);
-}
-
 /// The grade at the first place stands for all: a mask without the grade of some place.
 pub fn grade_at_start_alone(stem: &Stem, a: u32, b: u32, x: u32, wrong: u8)
     requires place { (a ≤ x) × (x < b) }
@@ -144,14 +133,6 @@ pub fn grade_at_start_alone(stem: &Stem, a: u32, b: u32, x: u32, wrong: u8)
     let _grade = stem.grade_at(x);
     let right = stem.grades_between(a, b);
     prove!(right != wrong);
-}
-
-/// The grade at the first place stands for all, though a zone begins between two samples.
-pub fn grade_at_start_alone_of_a_zone(alloc: Global) {
-    let Some(stem) = stem(alloc, &[300, 290], &[(50, 2)]) else {
-        return;
-    };
-    grade_at_start_alone(&stem, 0, 100, 50, 1);
 }
 
 /// The butt isn't counted among the points.
@@ -170,15 +151,6 @@ pub fn diameter_of_an_earlier_point(profile: &Profile<'_>, i: usize, earlier: us
 {
     let right = profile.diameter(i);
     let wrong = profile.diameter(earlier);
-    prove!(right != wrong);
-}
-
-/// Between two samples the line is gone along half as far.
-pub fn diameters_of_half_the_places(profile: &Profile<'_>)
-    requires { profile.now ≡ profile_of (stem_of 7 1 (300 ∷ 280 ∷ []) []) 50 }
-{
-    let right = profile.diameter(1);
-    let wrong = 295;
     prove!(right != wrong);
 }
 

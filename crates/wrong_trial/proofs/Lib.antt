@@ -3,3 +3,4 @@ mod Tables
 mod Journals
 mod Means
 mod Wanted
+pub mod Lines

@@ -1,14 +1,6 @@
 //! Wrong bodies of cells of a table.
-use buck_page_cells::{Change, put_change, put_number, put_spread, spread_of};
+use buck_page_cells::{Change, put_spread, spread_of};
 use std::alloc::Global;
-
-/// The mean of 1 and 2, 1.5, is rounded down.
-pub fn spread_mean_rounded_down() {
-    if let Some(right) = spread_of(&[Some(Change::to(1)), Some(Change::to(2))]) {
-        let wrong = 1;
-        prove!(right.mean.size != wrong);
-    }
-}
 
 /// The mean of -1 and -2, -1.5, is rounded to -2: a half goes away from 0, and not upwards.
 pub fn spread_half_away_from_zero() {
@@ -41,25 +33,6 @@ pub fn spread_by_size_alone() {
 pub fn spread_of_nothing() {
     let right = spread_of(&[None, None]);
     prove!(right.is_none());
-}
-
-/// A number that isn't there is put as 0.
-pub fn absent_number_as_zero(alloc: Global) {
-    let mut right = Vec::new(alloc);
-    if let Ok(()) = put_number(&mut right, None) {
-        let wrong = b",0";
-        prove!(right.as_slice() != wrong.as_slice());
-    }
-}
-
-/// A number that shrinks is put without its sign.
-pub fn change_without_sign(alloc: Global) {
-    let mut right = Vec::new(alloc);
-    let change = Change { from: 7, to: 2 };
-    if let Ok(()) = put_change(&mut right, Some(change)) {
-        let wrong = b",5";
-        prove!(right.as_slice() != wrong.as_slice());
-    }
 }
 
 /// If there is no spread, one cell is left empty, and not three.

@@ -1,7 +1,6 @@
 //! Wrong bodies of orders that are drawn by chance.
 ghost use Rattle.std.specs.Prelude.{◌≡◌, ◌≢◌, [], ◌∷◌, map};
 ghost use Rattle.std.specs.Arc.{arc_value};
-ghost use Rattle.buckfleet_trial_draws.specs.Draws.{state_behind};
 
 use buck_stem::Stem;
 use buckfleet_trial_draws::{Draws, below, order_from, shuffle, starts_of};
@@ -70,26 +69,6 @@ pub fn order_over_all_files_at_once(
     }
 }
 
-/// The generator starts again with each list: from state 0 the first of two stems stays the first in the list of the
-/// first file, and not in that of the second.
-pub fn order_of_each_file_from_the_same_state(
-    alloc: Global,
-    lists: &[Vec<Arc<Stem>>],
-    one: &Stem,
-    other: &Stem,
-)
-    requires lists { map (λ l. map arc_value l.items) lists.now
-        ≡ (one.now ∷ other.now ∷ []) ∷ (one.now ∷ other.now ∷ []) ∷ [] }
-    requires differ { one.now ≢ other.now }
-{
-    if let Ok(right) = order_from(alloc, 0, lists) {
-        if right.len() == 2 && right[1].len() == 2 {
-            let is_wrong = right[1][0].same(one);
-            prove!(!is_wrong);
-        }
-    }
-}
-
 /// Each draw begins at the seed, so that all orders are the same.
 pub fn starts_all_at_the_seed(
     alloc: Global,
@@ -105,27 +84,5 @@ pub fn starts_all_at_the_seed(
             let wrong = 0;
             prove!(right != wrong);
         }
-    }
-}
-
-/// The first draw begins where a draw from the seed ends.
-pub fn starts_behind_the_seed(alloc: Global, lists: &[Vec<Arc<Stem>>], wrong: u64)
-    requires wrong { wrong ≡ state_behind 0 (map (λ l. l.items) lists.now) }
-    requires differ { wrong ≢ 0 }
-{
-    if let Ok(starts) = starts_of(alloc, &Draws { number: 2, seed: 0 }, lists) {
-        if starts.len() == 2 {
-            let right = starts[0];
-            prove!(right != wrong);
-        }
-    }
-}
-
-/// One draw too few is made.
-pub fn starts_without_the_last_draw(alloc: Global, lists: &[Vec<Arc<Stem>>]) {
-    if let Ok(starts) = starts_of(alloc, &Draws { number: 3, seed: 0 }, lists) {
-        let right = starts.len();
-        let wrong = 2;
-        prove!(right != wrong);
     }
 }

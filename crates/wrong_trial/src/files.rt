@@ -9,7 +9,6 @@ use buck_apt_instruction::Instruction;
 use buckfleet_engine_files::{EngineFault, Nobody, Open};
 use buckfleet_terms_files::{
     TargetsFault, TermsFault, conclude_terms, open_last, open_more, read_own, read_wanted, status,
-    write_terms_fault,
 };
 use buckfleet_trial::{Opened, TrialTask};
 use buckfleet_trial_owned::{OwnedFiles, run_owned};
@@ -60,17 +59,6 @@ pub fn memory_as_refused_targets() {
     let right = status(&TermsFault::Targets(TargetsFault::Memory));
     let wrong = 1;
     prove!(right != wrong);
-}
-
-/// The place of a word is left out.
-#[tactic(auto, using(std::proofs::lemmas::Fmt::decimal_digit))]
-pub fn place_left_out(alloc: Global) {
-    let mut right = Vec::new(alloc);
-    let fault = TermsFault::Targets(TargetsFault::Digits { list: 1, place: 3 });
-    if write_terms_fault(&mut right, &fault) {
-        let wrong = b"targets fault 5 1\n";
-        prove!(right.as_slice() != wrong.as_slice());
-    }
 }
 
 /// Something is said of a run that went well.

@@ -6,7 +6,7 @@ ghost use Rattle.buck_apt_instruction.specs.Settings.{with_settings};
 ghost use Rattle.buck_book_postings.specs.History.{IsLawful};
 ghost use Rattle.buck_book_postings.specs.declared.posting.TheConstants.{MOST_POSTINGS};
 ghost use Rattle.buck_book_journal.specs.Journal.{JournalParts, history_of};
-ghost use Rattle.buck_book_text.specs.reading.Journal.{journal_of};
+ghost use Rattle.buck_book_journal.specs.Reading.{journal_of};
 ghost use Rattle.buck_page_figures.specs.Journals.{postings_of};
 ghost use Rattle.buckfleet_engine_files.specs.Reading.{apt_with};
 ghost use Rattle.buckfleet_engine_files.specs.Several.{HaveJournals};

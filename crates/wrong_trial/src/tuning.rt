@@ -5,7 +5,6 @@ ghost use Rattle.buck_apt_instruction.specs.Instruction.{InstructionParts};
 ghost use Rattle.buck_value.specs.Sheet.{base_prices};
 ghost use Rattle.buck_book_postings.specs.History.{prices_at};
 ghost use Rattle.buck_book_postings.specs.Posting.{planned_version};
-ghost use Rattle.buckfleet_terms_files.specs.Targets.{lists_of};
 ghost use Rattle.buckfleet_trial.specs.Inputs.{held_with};
 ghost use Rattle.buckfleet_trial_tune.specs.Tune.{tuned_price};
 
@@ -83,35 +82,6 @@ pub fn limit_of_the_run_printed<'x>(
             let right = right.limit();
             let wrong = 50;
             prove!(right != wrong);
-        }
-    }
-}
-
-/// The targets of the instruction are printed, though a file of targets is given.
-pub fn targets_of_the_instruction_printed<'x>(
-    alloc: Global,
-    task: &TuneTask<'_>,
-    apt: &'x [u8],
-    stm: &'x [u8],
-    targets: &'x [u8],
-)
-    requires own { (i : InstructionParts) → apt_of apt.now ≡ Ok i
-        → map (λ a. a.targets) i.assortments ≡ (5 ∷ []) ∷ [] }
-    requires file { lists_of targets.now ≡ Ok ((7 ∷ []) ∷ []) }
-{
-    let Some(mut files) = opened(alloc, apt, stm) else {
-        return;
-    };
-    files.targets = Some((targets, 2));
-    let mut out = Vec::new(alloc);
-    if let Ok(()) = run_tune(&OneThread, alloc, task, &Nobody, files, &mut out) {
-        if let Ok(right) = read_apt(alloc, out.as_slice()) {
-            if let Some(right) = right.assortments().first() {
-                if let Some(right) = right.targets().first() {
-                    let wrong = 5;
-                    prove!(*right != wrong);
-                }
-            }
         }
     }
 }

@@ -9,32 +9,6 @@ use buck_rule::{Rule, Standing};
 use std::alloc::Global;
 use std::sync::Arc;
 
-/// Each harvester has a stale attempt already.
-pub fn open_with_a_stale_attempt<F: Fn(&Standing) -> u64 + Drop>(
-    alloc: Global,
-    instruction: Arc<Instruction>,
-    rule: Rule<F>,
-) -> Result<World<F>, Memory> {
-    let world = World::open(alloc, instruction, rule, 4, 10)?;
-    let right = world.stale(1);
-    let wrong = 1;
-    prove!(right != wrong);
-    Ok(world)
-}
-
-/// The front begins at 1.
-pub fn open_with_front_1<F: Fn(&Standing) -> u64 + Drop>(
-    alloc: Global,
-    instruction: Arc<Instruction>,
-    rule: Rule<F>,
-) -> Result<World<F>, Memory> {
-    let world = World::open(alloc, instruction, rule, 4, 10)?;
-    let right = world.front();
-    let wrong = 1;
-    prove!(right != wrong);
-    Ok(world)
-}
-
 /// Half of the harvesters are counted.
 pub fn harvesters_halved<F: Fn(&Standing) -> u64 + Drop>(
     alloc: Global,

@@ -1,12 +1,12 @@
 //! The writing of a history's journal and report.
 ghost use Rattle.std.specs.Prelude.{◌≡◌, ◌≢◌, IfOk, IfErr};
-ghost use Rattle.buck_book_text.specs.Written.{journal_text};
+ghost use Rattle.buck_book_journal.specs.Written.{journal_text};
 ghost use Rattle.buckfleet_engine_files.specs.declared.fault.EngineFault.TheVariants.{Write};
 ghost use Rattle.buckfleet_engine_files.specs.Lent.{no_writer, of_made, of_writer};
 ghost use Rattle.buckfleet_engine.specs.inner.Fleet.{AreWritten};
 
 use buck_book_postings::Parts;
-use buck_book_text::journal_text;
+use buck_book_writer::journal_text;
 use buck_record::Memory;
 use buckfleet_engine_files::{EngineFault, write_text};
 use buckfleet_engine_text::report_of;

@@ -5,3 +5,8 @@ abbrev pub invariant-loop : goal.invariant-loop
 invariant-loop g l = record {
   rule : l.book.rule ≡ l.fn.book.rule;
 }
+
+abbrev pub invariant-loop-stem : goal.invariant-loop-stem
+invariant-loop-stem g l = record {
+  rule : l.book.rule ≡ l.fn.book.rule;
+}

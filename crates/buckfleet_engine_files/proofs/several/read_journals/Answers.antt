@@ -3,7 +3,7 @@ use Rattle.std.proofs.lemmas.List.{length-map}
 use Rattle.std.proofs.lemmas.List.Elements.{All-push, All-same}
 use Rattle.buck_book_postings.specs.declared.posting.TheConstants.{MOST_POSTINGS}
 use Rattle.buck_book_journal.specs.Journal.{JournalParts}
-use Rattle.buck_book_text.specs.reading.Journal.{journal_of}
+use Rattle.buck_book_journal.specs.Reading.{journal_of}
 use Rattle.buckfleet_engine_files.specs.Reading.{Says}
 use Rattle.buckfleet_engine_files.proofs.Lists.{same_place, same_rest}
 use Rattle.buckfleet_engine_files.proofs.SeveralLemmas.{memory_at, read_more, refused_at}

@@ -6,7 +6,7 @@ use Rattle.buck_apt_instruction.specs.Instruction.{InstructionParts}
 use Rattle.buck_rule.specs.declared.named.NamedRule.{NamedRule}
 use Rattle.buck_book_postings.proofs.Ends.{true_false}
 use Rattle.buck_book_journal.specs.Journal.{JournalParts, history_of}
-use Rattle.buck_book_text.specs.reading.Journal.{journal_of}
+use Rattle.buck_book_journal.specs.Reading.{journal_of}
 use Rattle.buckfleet_engine_files.specs.declared.fault.EngineFault.{EngineFault}
 use Rattle.buckfleet_engine_files.specs.Reading.{ReadsApt, apt_with}
 use Rattle.buckfleet_engine_files.specs.Written.{WritesText}

@@ -1,7 +1,7 @@
 use Rattle.std.proofs.Common.{◌≡◌, ℕ, List, IfOk, subst}
 use Rattle.buck_book_postings.specs.declared.posting.Posting.{Posting}
 use Rattle.buck_book_postings.proofs.Handed.{prices_are}
-use Rattle.buck_book_text.specs.Written.{journal_text}
+use Rattle.buck_book_journal.specs.Written.{journal_text}
 use Rattle.buckfleet_engine.proofs.fleet.writing.text_of_journal.Goals as goal
 
 pub returns : goal.returns

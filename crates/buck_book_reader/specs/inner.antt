@@ -1,0 +1,2 @@
+-- What the crate's own functions show one another.
+pub mod Lists

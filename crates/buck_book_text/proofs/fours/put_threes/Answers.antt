@@ -1,5 +1,0 @@
-use Rattle.buck_book_text.proofs.fours.put_threes.Goals as goal
-
-pub returns : goal.returns
-returns c =
-    rw (c.three-a.ensures, c.three-b.ensures, c.three-c.ensures, c.three-d.ensures) c.put.ensures

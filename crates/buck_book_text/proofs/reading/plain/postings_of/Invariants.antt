@@ -1,6 +1,0 @@
-use Rattle.buck_book_text.proofs.Words.{LeadsPostings}
-use Rattle.buck_book_text.proofs.reading.plain.postings_of.Given as goal
-
--- the postings so far lead to what is left
-abbrev pub invariant-loop : goal.invariant-loop
-invariant-loop l = LeadsPostings l.fn.text l.postings.items l.rest

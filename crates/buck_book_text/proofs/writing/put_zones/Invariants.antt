@@ -1,5 +1,0 @@
-use Rattle.buck_book_text.proofs.Words.{◌≡◌, ◌++◌, take, spelled, zone_numbers}
-use Rattle.buck_book_text.proofs.writing.put_zones.Given as goal
-
-abbrev pub invariant-loop-zone : goal.invariant-loop-zone
-invariant-loop-zone l = l.out.items ≡ l.initial.out.items ++ spelled (zone_numbers (take l.zone-index l.zones))

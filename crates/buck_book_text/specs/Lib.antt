@@ -1,4 +1,0 @@
-pub mod Written
-pub mod reading
-pub mod Ranges
-pub mod inner

@@ -1,3 +1,0 @@
-pub mod Looked
-pub mod Refused
-pub mod Ruled
