@@ -1,7 +1,7 @@
 -- What one call adds to the history of a book: a cut, or new targets, and the next sheet if the period ends.
 use Rattle.std.specs.Prelude.{◌≡◌, ◌≤◌, ◌<◌, ℕ, List, [], ◌∷◌, ◌++◌, Option, IfSome}
 use Rattle.buck_apt_instruction.specs.Instruction.{InstructionParts}
-use Rattle.buck_stem.specs.Stem.{StemParts}
+use Rattle.buck_stem_shape.specs.Stem.{StemParts}
 use Rattle.buck_value.specs.Sheet.{SheetParts, base_prices}
 use Rattle.buck_book_postings.specs.declared.posting.Posting.{Posting}
 use Rattle.buck_book_postings.specs.declared.posting.Posting.TheVariants.{Cut, Demand}

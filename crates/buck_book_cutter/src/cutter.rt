@@ -18,7 +18,7 @@ use buck_book_writer::journal_text;
 use buck_dp::Planner;
 use buck_record::Memory;
 use buck_rule::{Rule, Standing};
-use buck_stem::Stem;
+use buck_stem_shape::Stem;
 use std::alloc::Global;
 use std::marker::Model;
 use std::sync::Arc;

@@ -32,9 +32,9 @@ use Rattle.buck_record.specs.checking.Table.{is_at}
 use Rattle.buck_record.specs.checking.Check.{◌>>=◌, check}
 use Rattle.buck_record.specs.checking.Rules.{slot, file_slot, within, all_within, one_to}
 use Rattle.buck_apt_instruction.specs.declared.slots.TheConstants.{LENGTHS, TARGETS}
-use Rattle.buck_stem.specs.declared.file.slots.TheConstants.{SPECIES, SAMPLES, MOST_SAMPLES, STARTS, GRADES, MOST_ZONES}
-use Rattle.buck_stem.specs.Stem.{StemParts, stem_of}
-use Rattle.buck_stem.specs.file.Stm.{zones_of}
+use Rattle.buck_stem_shape.specs.declared.slots.TheConstants.{SPECIES, SAMPLES, MOST_SAMPLES, STARTS, GRADES, MOST_ZONES}
+use Rattle.buck_stem_shape.specs.Stem.{StemParts, stem_of}
+use Rattle.buck_stem.specs.Stm.{zones_of}
 use Rattle.buck_value.specs.declared.log.Log.{Log}
 use Rattle.buck_book_postings.specs.declared.posting.Posting.{Posting}
 use Rattle.buck_book_postings.specs.declared.posting.Posting.TheVariants.{Cut, Demand}

@@ -6,7 +6,7 @@ use buck_record::Count::{AtMost, One, Pairs, Slots, Triples, UpTo};
 use buck_record::Level::{Head, Member, Opener};
 use buck_record::Order::Rising;
 use buck_record::{Described, Slot, described};
-use buck_stem::slots::{GRADES, MOST_SAMPLES, MOST_ZONES, SAMPLES, SPECIES, STARTS};
+use buck_stem_shape::slots::{GRADES, MOST_SAMPLES, MOST_ZONES, SAMPLES, SPECIES, STARTS};
 use buck_value::HIGHEST_PRICE;
 
 /// A slot with the range of some of its numbers.

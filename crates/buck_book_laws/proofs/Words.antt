@@ -2,7 +2,7 @@
 pub use Rattle.std.proofs.Common.{◌≡◌, ℕ, suc, ◌+◌, false, List, [], ◌∷◌, Option, Some, None, inl, inr, drop, slice_get, refl, arith, ◌-◌, ◌<◌, ◌≤◌, ◌^◌, true, ◌++◌, All, Ok, get_or, length, take, map, sym, ap, ◌∙◌, subst, append_assoc}
 pub use Rattle.std.proofs.Common.{codes, rules, zero, Bool, Result, Err, sum_by, if◌then◌else◌, ◌*◌, eq-eqb, slice_index, mul-le-mul_left}
 pub use Rattle.std.proofs.lemmas.List.{append-nil, take_all, length-append, length-take-le, get_or_default}
-pub use Rattle.buck_stem.specs.Stem.{StemParts, IsStem, IsGrade, IsRisingFrom}
+pub use Rattle.buck_stem_shape.specs.Stem.{StemParts, IsStem, IsGrade, IsRisingFrom}
 pub use Rattle.buck_dp.proofs.Words.{IsSheet, sheet_of, IsAllowed, end_of, IsCutFrom}
 pub use Rattle.std.proofs.lemmas.List.Sums.{AllPass-from_list_all, suffix_len_is, sum_by-cons}
 pub use Rattle.std.specs.List.{position_or_len, AllByRecursion, flat_map}
@@ -12,8 +12,8 @@ pub use Rattle.buck_record.specs.Item.{ItemParts}
 pub use Rattle.buck_record.specs.checking.Rules.{slot, file_slot, within, all_within}
 pub use Rattle.buck_record.proofs.PassLemmas.{both, check_ok, within_ok}
 pub use Rattle.buck_apt_instruction.specs.declared.slots.TheConstants.{TARGETS}
-pub use Rattle.buck_stem.specs.declared.file.slots.TheConstants.{SAMPLES, MOST_ZONES, SPECIES, MOST_SAMPLES, STARTS}
-pub use Rattle.buck_stem.specs.file.Stm.{zones_of}
+pub use Rattle.buck_stem_shape.specs.declared.slots.TheConstants.{SAMPLES, MOST_ZONES, SPECIES, MOST_SAMPLES, STARTS}
+pub use Rattle.buck_stem.specs.Stm.{zones_of}
 pub use Rattle.buck_value.specs.declared.log.Log.{Log}
 pub use Rattle.buck_book_postings.specs.declared.posting.Posting.{Posting}
 pub use Rattle.buck_book_postings.specs.declared.posting.Posting.TheVariants.{Cut, Demand}

@@ -3,8 +3,8 @@ use Rattle.std.specs.Prelude.{◌≡◌, ℕ, ◌≤◌, true, List, length, All
 use Rattle.buck_record.specs.checking.Rules.{within, all_within, one_to}
 use Rattle.buck_apt_instruction.specs.Instruction.{IsWithin}
 use Rattle.buck_apt_instruction.specs.declared.slots.TheConstants.{TARGETS}
-use Rattle.buck_stem.specs.declared.file.slots.TheConstants.{SPECIES, SAMPLES, MOST_SAMPLES, MOST_ZONES}
-use Rattle.buck_stem.specs.Stem.{IsStem}
+use Rattle.buck_stem_shape.specs.declared.slots.TheConstants.{SPECIES, SAMPLES, MOST_SAMPLES, MOST_ZONES}
+use Rattle.buck_stem_shape.specs.Stem.{IsStem}
 use Rattle.buck_book_postings.specs.declared.posting.Posting.{Posting}
 use Rattle.buck_book_postings.specs.declared.posting.Posting.TheVariants.{Cut, Demand}
 use Rattle.buck_book_postings.specs.Entry.{EntryParts, DemandParts}

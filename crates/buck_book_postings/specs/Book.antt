@@ -1,7 +1,7 @@
 -- A book as clauses see it, and what a prepared commit has to be.
 use Rattle.std.specs.Prelude.{◌≡◌, ℕ, ◌+◌, ◌<◌, ◌≤◌, List, [], ◌∷◌, ◌++◌, length, slice_get, Option, Some, MatchOption}
 use Rattle.buck_apt_instruction.specs.Instruction.{InstructionParts, IsInstruction, IsWithin}
-use Rattle.buck_stem.specs.Stem.{StemParts, IsStem}
+use Rattle.buck_stem_shape.specs.Stem.{StemParts, IsStem}
 use Rattle.buck_value.specs.declared.log.Log.{Log}
 use Rattle.buck_value.specs.Sheet.{SheetParts, sheet_of}
 use Rattle.buck_dp.specs.Best.{IsFirstBest}

@@ -4,7 +4,7 @@ use Rattle.buck_apt_instruction.specs.declared.class.Class.{Class}
 use Rattle.buck_apt_instruction.specs.Instruction.{InstructionParts, IsClass, classes, index_of}
 use Rattle.buck_value.specs.declared.log.Log.{Log}
 use Rattle.buck_value.specs.Allowed.{class_of}
-use Rattle.buck_stem.specs.Stem.{StemParts}
+use Rattle.buck_stem_shape.specs.Stem.{StemParts}
 use Rattle.buck_book_postings.specs.declared.posting.Posting.{Posting}
 use Rattle.buck_book_postings.specs.declared.posting.Posting.TheVariants.{Cut, Demand}
 use Rattle.buck_book_postings.specs.Posting.{harvester_of}

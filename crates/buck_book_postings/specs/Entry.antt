@@ -1,6 +1,6 @@
 -- What stands in a history, as clauses see it: an entry is what was cut of one stem, a demand puts targets in force.
 use Rattle.std.specs.Prelude.{ℕ, List}
-use Rattle.buck_stem.specs.Stem.{StemParts}
+use Rattle.buck_stem_shape.specs.Stem.{StemParts}
 use Rattle.buck_value.specs.declared.log.Log.{Log}
 
 pub record EntryParts : Type 0 where

@@ -1,6 +1,6 @@
 -- A plan as clauses see it.
 use Rattle.std.specs.Prelude.{◌≡◌, ℕ, List}
-use Rattle.buck_stem.specs.Stem.{StemParts, IsStem}
+use Rattle.buck_stem_shape.specs.Stem.{StemParts, IsStem}
 use Rattle.buck_value.specs.declared.log.Log.{Log}
 use Rattle.buck_value.specs.Sheet.{SheetParts, IsSheet}
 use Rattle.buck_dp.specs.Best.{IsFirstBest, cutting_worth}

@@ -4,8 +4,8 @@ use Rattle.std.specs.declared.sync.Arc.{Arc}
 use Rattle.std.specs.declared.vec.Vec.{Vec}
 use Rattle.std.specs.declared.alloc.Global.{Global}
 use Rattle.std.specs.Arc.{arc_value}
-use Rattle.buck_stem.specs.declared.stem.Stem.{Stem}
-use Rattle.buck_stem.specs.Stem.{StemParts}
+use Rattle.buck_stem_shape.specs.declared.stem.Stem.{Stem}
+use Rattle.buck_stem_shape.specs.Stem.{StemParts}
 use Rattle.buck_book_postings.specs.declared.posting.Posting.{Posting}
 use Rattle.buck_book_postings.specs.declared.posting.Posting.TheVariants.{Cut, Demand}
 use Rattle.buck_book_postings.specs.declared.posting.Kept.{Kept}

@@ -3,7 +3,7 @@ ghost use Rattle.std.specs.Prelude.{◌≡◌, ◌↔◌, IfOk, IsTrue};
 
 use buck_dp::Cutting;
 use buck_record::Memory;
-use buck_stem::Stem;
+use buck_stem_shape::Stem;
 use buck_value::Log;
 use std::marker::Model;
 use std::sync::Arc;

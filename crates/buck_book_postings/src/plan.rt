@@ -6,7 +6,7 @@ ghost use Rattle.buck_book_postings.specs.inner.Places.{ArePlaces};
 
 use buck_dp::{Cutting, Planner};
 use buck_record::Memory;
-use buck_stem::Stem;
+use buck_stem_shape::Stem;
 use buck_value::{Log, Sheet, class_of};
 use std::alloc::{AllocError, Global};
 use std::marker::Model;

@@ -6,7 +6,7 @@ ghost use Rattle.buck_book_postings.specs.declared.ready.CutFault.TheVariants as
 
 use buck_dp::Cutting;
 use buck_record::Memory;
-use buck_stem::Stem;
+use buck_stem_shape::Stem;
 use buck_value::Sheet;
 use std::alloc::AllocError;
 use std::fmt::{self, Debug, Formatter};

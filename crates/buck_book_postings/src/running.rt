@@ -18,7 +18,7 @@ use crate::pricing::prices_by;
 use buck_apt_instruction::Instruction;
 use buck_record::Memory;
 use buck_rule::{Rule, Standing};
-use buck_stem::Stem;
+use buck_stem_shape::Stem;
 use buck_value::{Log, Sheet, class_of};
 use std::alloc::{AllocError, Global};
 use std::sync::Arc;

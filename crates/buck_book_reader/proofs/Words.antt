@@ -2,7 +2,7 @@
 pub use Rattle.std.proofs.Common.{◌≡◌, ℕ, ◌+◌, ◌*◌, ◌≤◌, true, List, [], ◌∷◌, ◌++◌, length, sym, ◌∙◌, subst, arith, rules, ◌<◌, Bool, false, Some, Ok, Result, codes, slice_get, refl, append_assoc, eq-eqb, ◌&&◌, drop, get_or, ap, drop-cons}
 pub use Rattle.std.proofs.Common.{add-one, take, length-drop, ◌-◌, Err, map, ◌/◌}
 pub use Rattle.std.proofs.lemmas.List.{append-nil, drop_all, take_all, length_push}
-pub use Rattle.buck_stem.specs.Stem.{IsStem, IsGrade, IsRisingFrom, stem_of}
+pub use Rattle.buck_stem_shape.specs.Stem.{IsStem, IsGrade, IsRisingFrom, stem_of}
 pub use Rattle.std.proofs.lemmas.List.Sums.{AllPass-from_list_all}
 pub use Rattle.std.specs.List.{AllByRecursion}
 pub use Rattle.std.proofs.lemmas.Bool.{lt-ltb, and_from}
@@ -11,8 +11,8 @@ pub use Rattle.buck_record.specs.Item.{ItemParts}
 pub use Rattle.buck_record.specs.checking.Rules.{all_within, one_to, slot, file_slot}
 pub use Rattle.buck_record.proofs.PassLemmas.{both, within_ok}
 pub use Rattle.buck_apt_instruction.specs.declared.slots.TheConstants.{TARGETS}
-pub use Rattle.buck_stem.specs.declared.file.slots.TheConstants.{SPECIES, SAMPLES, MOST_SAMPLES, STARTS, MOST_ZONES}
-pub use Rattle.buck_stem.specs.file.Stm.{zones_of}
+pub use Rattle.buck_stem_shape.specs.declared.slots.TheConstants.{SPECIES, SAMPLES, MOST_SAMPLES, STARTS, MOST_ZONES}
+pub use Rattle.buck_stem.specs.Stm.{zones_of}
 pub use Rattle.buck_value.specs.declared.log.Log.{Log}
 pub use Rattle.buck_book_postings.specs.declared.posting.Posting.{Posting}
 pub use Rattle.buck_book_postings.specs.declared.posting.Posting.TheVariants.{Cut, Demand}

@@ -1,7 +1,7 @@
 -- Numbers that are within the limits of a stem.
 use Rattle.std.specs.Prelude.{ℕ, ◌≤◌, List, length, All}
-use Rattle.buck_stem.specs.declared.file.slots.TheConstants.{SAMPLES, MOST_SAMPLES, STARTS, MOST_ZONES}
-use Rattle.buck_stem.specs.Stem.{IsGrade, IsRisingFrom}
+use Rattle.buck_stem_shape.specs.declared.slots.TheConstants.{SAMPLES, MOST_SAMPLES, STARTS, MOST_ZONES}
+use Rattle.buck_stem_shape.specs.Stem.{IsGrade, IsRisingFrom}
 
 pub record AreSamples (samples : List ℕ) : Type 0 where
   pub samples_number : (1 ≤ length samples) × (length samples ≤ MOST_SAMPLES)

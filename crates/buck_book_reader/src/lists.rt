@@ -6,7 +6,7 @@ use buck_book_journal::{Call, JournalFault};
 use buck_book_postings::MOST_POSTINGS;
 use buck_record::check::check;
 use buck_record::rules::all_within;
-use buck_stem::slots::SPECIES;
+use buck_stem_shape::slots::SPECIES;
 
 /// Whether numbers can be the prices of a sheet, or the targets of a demand.
 pub(crate) fn check_list(

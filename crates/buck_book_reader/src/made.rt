@@ -5,7 +5,7 @@ ghost use Rattle.buck_book_journal.specs.Reading.{entry_of, demand_of};
 use buck_book_journal::Call;
 use buck_book_postings::{Demand, Entry, Posting};
 use buck_dp::Cutting;
-use buck_stem::Stem;
+use buck_stem_shape::Stem;
 use buck_value::Log;
 use std::alloc::{AllocError, Global};
 use std::sync::Arc;

@@ -9,7 +9,7 @@ use buck_apt_instruction::slots::LENGTHS;
 use buck_book_journal::JournalFault;
 use buck_record::check::check;
 use buck_record::rules::{all_within, one_to};
-use buck_stem::slots::{GRADES, MOST_SAMPLES, MOST_ZONES, SAMPLES, STARTS};
+use buck_stem_shape::slots::{GRADES, MOST_SAMPLES, MOST_ZONES, SAMPLES, STARTS};
 use buck_value::Log;
 use std::alloc::{AllocError, Global};
 

@@ -17,7 +17,7 @@ use buck_book_journal::{Journal, JournalFault};
 use buck_book_postings::{MOST_POSTINGS, Posting};
 use buck_record::rules::FILE;
 use buck_record::{Slot, is_done, next_in, numbers_into, wide};
-use buck_stem::Stem;
+use buck_stem_shape::Stem;
 use buck_value::HIGHEST_PRICE;
 use std::alloc::{AllocError, Global};
 

@@ -19,8 +19,8 @@ use buck_book_journal::slots::{
 };
 use buck_book_postings::Posting;
 use buck_record::Piece;
-use buck_stem::Stem;
-use buck_stem::slots::SPECIES;
+use buck_stem_shape::Stem;
+use buck_stem_shape::slots::SPECIES;
 use buck_value::{HIGHEST_PRICE, Log};
 use std::alloc::{AllocError, Global};
 

@@ -7,7 +7,7 @@ ghost use Rattle.buck_book_journal.specs.Written.{item_text, zone_numbers, log_n
 use crate::fours::{put, put_four};
 use buck_book_postings::{Demand, Entry, Posting};
 use buck_record::{Memory, put_number};
-use buck_stem::Stem;
+use buck_stem_shape::Stem;
 use buck_value::{Log, Sheet};
 use std::alloc::Global;
 use std::sync::Arc;

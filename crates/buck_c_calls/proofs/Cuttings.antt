@@ -2,7 +2,7 @@
 use Rattle.std.proofs.Common.{◌≡◌, ℕ, ◌+◌, ◌<◌, ◌≤◌, ◌⊎◌, inl, inr, All, List, Some, length, get_or, set, slice_get, unwrap_or, sym, ap, ◌∙◌, subst, arith}
 use Rattle.std.proofs.lemmas.List.{get_or-set_other}
 use Rattle.std.proofs.lemmas.Grind.{get_or-set_at}
-use Rattle.buck_stem.specs.Stem.{StemParts}
+use Rattle.buck_stem_shape.specs.Stem.{StemParts}
 use Rattle.buck_value.specs.declared.log.Log.{Log}
 use Rattle.buck_value.specs.Sheet.{SheetParts}
 use Rattle.buck_value.specs.Allowed.{IsAllowed}

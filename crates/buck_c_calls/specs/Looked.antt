@@ -1,6 +1,6 @@
 -- What is said of a felled stem that isn't cut, as a caller in another language sees it.
 use Rattle.std.specs.Prelude.{◌≡◌, ◌⊎◌, ℕ, List, length, map, Option, Some, None}
-use Rattle.buck_stem.specs.Stem.{StemParts}
+use Rattle.buck_stem_shape.specs.Stem.{StemParts}
 use Rattle.buck_value.specs.declared.log.Log.{Log}
 use Rattle.buck_book_postings.specs.Entry.{EntryParts}
 use Rattle.buck_book_postings.specs.History.{HistoryParts, version_of, in_force}

@@ -1,6 +1,6 @@
 -- A cutting as a caller in another language sees it.
 use Rattle.std.specs.Prelude.{◌≡◌, ℕ, length, Some, slice_get, slice_index_or}
-use Rattle.buck_stem.specs.Stem.{StemParts, IsStem}
+use Rattle.buck_stem_shape.specs.Stem.{StemParts, IsStem}
 use Rattle.buck_value.specs.declared.log.Log.{Log}
 use Rattle.buck_value.specs.Sheet.{SheetParts, IsSheet, price_of}
 use Rattle.buck_value.specs.Allowed.{class_of, top_diameter, worth_of}

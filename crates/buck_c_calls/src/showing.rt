@@ -1,6 +1,6 @@
 //! A cutting as C sees it.
 ghost use Rattle.std.specs.Prelude.{◌≡◌, ◌≤◌, ℕ, All, length, slice_get, slice_index_or, Some};
-ghost use Rattle.buck_stem.specs.Stem.{stem_length};
+ghost use Rattle.buck_stem_shape.specs.Stem.{stem_length};
 ghost use Rattle.buck_value.specs.declared.log.Log.{Log};
 ghost use Rattle.buck_value.specs.Allowed.{Allows, IsAllowed, class_in, top_diameter, top_of};
 ghost use Rattle.buck_c_calls.specs.Shown.{IsCutUnder, ShowsCut, ShowsLog};
@@ -8,7 +8,7 @@ ghost use Rattle.buck_c_calls.specs.declared.showing.CutLog.{CutLog};
 
 use buck_apt_instruction::{Assortment, Class};
 use buck_book_postings::Entry;
-use buck_stem::Stem;
+use buck_stem_shape::Stem;
 use buck_value::{Log, Sheet, column_of, row_of, volume_of, worth_of_piece};
 
 /// The most logs that a stem can be cut into.

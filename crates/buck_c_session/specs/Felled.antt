@@ -1,7 +1,7 @@
 -- Felled stems as a caller in another language has them, and why one isn't cut.
 use Rattle.std.specs.Prelude.{◌≡◌, ℕ, ◌<◌, ◌≤◌, List, length, map}
 use Rattle.buck_apt_instruction.specs.Instruction.{IsWithin}
-use Rattle.buck_stem.specs.Stem.{StemParts, IsStem, stem_of}
+use Rattle.buck_stem_shape.specs.Stem.{StemParts, IsStem, stem_of}
 use Rattle.buck_c_session.specs.declared.felling.Felled.{Felled}
 use Rattle.buck_c_session.specs.declared.felling.Zone.{Zone}
 use Rattle.buck_c_session.specs.declared.felling.FellFault.{FellFault}

@@ -1,7 +1,7 @@
 -- What is said of a felled stem that isn't cut: how it would be cut now, and what other logs of it are worth.
 use Rattle.std.specs.Prelude.{◌≡◌, ℕ, ◌<◌, ◌≤◌, List}
 use Rattle.buck_apt_instruction.specs.Instruction.{IsWithin}
-use Rattle.buck_stem.specs.Stem.{StemParts, IsStem}
+use Rattle.buck_stem_shape.specs.Stem.{StemParts, IsStem}
 use Rattle.buck_value.specs.declared.log.Log.{Log}
 use Rattle.buck_book_postings.specs.Entry.{EntryParts}
 use Rattle.buck_book_postings.specs.Plan.{PlanParts, IsPlan}

@@ -1,7 +1,7 @@
 //! Stems as a caller in another language has them, cut one by one.
 ghost use Rattle.std.specs.Prelude.{◌≡◌, IfOk, IfErr, IsOk, map};
 ghost use Rattle.buck_apt_instruction.specs.Instruction.{IsWithin};
-ghost use Rattle.buck_stem.specs.Stem.{IsStem};
+ghost use Rattle.buck_stem_shape.specs.Stem.{IsStem};
 ghost use Rattle.buck_book_cutter.specs.Cut.{HasCut};
 ghost use Rattle.buck_c_session.specs.Kept.{ArePricesBy, SameTerms};
 ghost use Rattle.buck_c_session.specs.Felled.{pair_of, stem_by, IsFellFault};
@@ -9,7 +9,7 @@ ghost use Rattle.buck_c_session.specs.Looked.{IsLookFault};
 
 use crate::kept::KeptBook;
 use buck_book_postings::{CutFault, Entry};
-use buck_stem::{Stem, StemFault};
+use buck_stem_shape::{Stem, StemFault};
 use std::alloc::{AllocError, Global};
 use std::sync::Arc;
 use thiserror::Error;

@@ -12,7 +12,7 @@ use buck_book_cutter::Cutter;
 use buck_book_postings::{Book, CutFault, Demand, DemandRefusal, Entry, Plan};
 use buck_record::Memory;
 use buck_rule::{NamedRule, Rule, Standing};
-use buck_stem::Stem;
+use buck_stem_shape::Stem;
 use std::alloc::Global;
 use std::marker::Model;
 use std::sync::Arc;

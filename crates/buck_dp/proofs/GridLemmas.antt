@@ -5,7 +5,7 @@ use Rattle.buck_dp.proofs.Words.{GroundParts, points_of, ends_of, AssortmentSet,
 use Rattle.buck_dp.proofs.Words.{bid_at, IsNearest, IsGrid, StemGrid, StartRange, Cell, IsLogAt, CacheParts, IsCacheOf}
 use Rattle.buck_dp.proofs.ListLemmas.{all_at}
 use Rattle.buck_dp.proofs.Logs.{point_within, row_serves}
-use Rattle.buck_stem.specs.points.Profile as points
+use Rattle.buck_stem_shape.specs.points.Profile as points
 
 module _ {p : GroundParts} {values : List BidParts} {choices : List ℕ} where
   -- a search to a top is one to an equal top

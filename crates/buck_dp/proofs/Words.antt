@@ -11,7 +11,7 @@ pub use Rattle.std.proofs.lemmas.List.{get_or_append_left, drop_all, length-drop
 pub use Rattle.std.proofs.lemmas.List.{with_items_is, get_or_default, get_or_push, length-map, get_or-map}
 pub use Rattle.std.proofs.Math.Nat.{mul-mod_left, div-mul-le_self, mul-add-div_right, lt-div-mul-add, div-lt_iff_lt-mul, mul-div_left, zero-mul, mul-le-mul, le_of_mul-le-mul_right, div-le_of_le-mul}
 pub use Rattle.buck_dp.specs.inner.Bid.{BidParts, bid_of, IsAtMost, IsGreater, plus, none}
-pub use Rattle.buck_stem.specs.Stem.{diameter_at, grade_at, HasGrade}
+pub use Rattle.buck_stem_shape.specs.Stem.{diameter_at, grade_at, HasGrade}
 pub use Rattle.buck_value.specs.Allowed.{trim_in, trim_of, last_position}
 pub use Rattle.buck_value.proofs.Rates.{worth_low}
 pub use Rattle.buck_dp.specs.Cutting.{IsCutFrom}
@@ -27,8 +27,8 @@ pub use Rattle.buck_dp.specs.Order.{IsLogBefore, IsBefore}
 pub use Rattle.buck_dp.specs.Best.{IsAdmissible, IsFirstBest, cutting_worth}
 pub use Rattle.std.proofs.lemmas.Nat.{le-div}
 pub use Rattle.buck_value.proofs.Prices.{price-le}
-pub use Rattle.buck_stem.specs.points.Profile.{IsMask}
-pub use Rattle.buck_stem.proofs.Tables.{grade_at_is}
+pub use Rattle.buck_stem_shape.specs.points.Profile.{IsMask}
+pub use Rattle.buck_stem_shape.proofs.Tables.{grade_at_is}
 pub use Rattle.buck_value.proofs.Grades.{mask_allows}
 pub use Rattle.buck_dp.specs.inner.StemGrid.{IsGrid, IsRangeTo, AreRanges, HaveRanges, IsEven, IsNearest, IsCacheOf, IsPlan}
 pub use Rattle.buck_dp.specs.declared.planning.StemGrid.{StemGrid}

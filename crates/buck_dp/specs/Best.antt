@@ -2,7 +2,7 @@
 -- Models for Optimal Log Bucking", Linköping, 1985.
 use Rattle.std.specs.Prelude.{◌≢◌, ℕ, ◌≤◌, List, sum_by}
 use Rattle.buck_value.specs.declared.log.Log.{Log}
-use Rattle.buck_stem.specs.Stem.{StemParts}
+use Rattle.buck_stem_shape.specs.Stem.{StemParts}
 use Rattle.buck_value.specs.Sheet.{SheetParts}
 use Rattle.buck_value.specs.Allowed.{IsAllowed, worth_of, end_of}
 use Rattle.buck_dp.specs.Order.{IsBefore}

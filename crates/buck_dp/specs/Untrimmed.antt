@@ -2,7 +2,7 @@
 -- other contract leads here.
 use Rattle.std.specs.Prelude.{List}
 use Rattle.buck_value.specs.declared.log.Log.{Log}
-use Rattle.buck_stem.specs.Stem.{StemParts}
+use Rattle.buck_stem_shape.specs.Stem.{StemParts}
 use Rattle.buck_value.specs.Sheet.{SheetParts}
 use Rattle.buck_value.specs.Allowed.{top_of}
 use Rattle.buck_value.specs.Untrimmed.{IsAllowedUntrimmed}

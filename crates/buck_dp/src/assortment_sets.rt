@@ -3,7 +3,7 @@ ghost use Rattle.std.specs.Prelude.{ℕ, ◌<◌, ◌↔◌, IsTrue, IfOk};
 ghost use Rattle.buck_dp.specs.inner.Logs.{IsTaker, AreTakersOf, AreWoodEntries};
 
 use buck_apt_instruction::Instruction;
-use buck_stem::Grades;
+use buck_stem_shape::Grades;
 use buck_value::{Sheet, takes};
 use std::alloc::AllocError;
 

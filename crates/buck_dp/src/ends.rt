@@ -1,10 +1,10 @@
 //! Where logs end.
 ghost use Rattle.std.specs.Prelude.{◌≡◌, ◌≤◌};
-ghost use Rattle.buck_stem.specs.Stem.{IsStem};
+ghost use Rattle.buck_stem_shape.specs.Stem.{IsStem};
 ghost use Rattle.buck_value.specs.Allowed.{IsAllowed, end_of};
 ghost use Rattle.buck_dp.specs.inner.Logs.{point_after};
 
-use buck_stem::Stem;
+use buck_stem_shape::Stem;
 use buck_value::{Log, Sheet};
 
 /// Where an allowed log ends, in mm from the butt: it takes up its length and the trim allowance of its assortment.

@@ -4,7 +4,7 @@ ghost use Rattle.buck_dp.specs.Best.{IsAdmissible, cutting_worth};
 
 use crate::cutting::Cutting;
 use crate::ends::end_of;
-use buck_stem::Stem;
+use buck_stem_shape::Stem;
 use buck_value::{Sheet, worth_if_allowed};
 
 /// The worth of a cutting under a sheet, in millionths of the price unit, if it is admissible, and `None` if it

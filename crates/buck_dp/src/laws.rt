@@ -1,7 +1,7 @@
 //! What follows from the definitions, for all sheets, stems and lists of logs: each law is the contract of an empty
 //! function.
 ghost use Rattle.std.specs.Prelude.{◌≡◌, ℕ, ◌≤◌, ◌↔◌, List, All, length};
-ghost use Rattle.buck_stem.specs.Stem.{StemParts, IsStem};
+ghost use Rattle.buck_stem_shape.specs.Stem.{StemParts, IsStem};
 ghost use Rattle.buck_value.specs.declared.log.Log.{Log};
 ghost use Rattle.buck_value.specs.Sheet.{SheetParts, IsSheet};
 ghost use Rattle.buck_value.specs.Allowed.{IsAllowed};

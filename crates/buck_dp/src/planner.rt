@@ -10,7 +10,7 @@ use crate::following::follow;
 use crate::planning::{Search, StemGrid, fit_of};
 use crate::sheet_cache::SheetCache;
 use buck_record::Memory;
-use buck_stem::{Profile, ProfileLists, Stem};
+use buck_stem_shape::{Profile, ProfileLists, Stem};
 use buck_value::Sheet;
 use std::alloc::Global;
 use std::marker::Model;

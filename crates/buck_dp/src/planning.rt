@@ -1,7 +1,7 @@
 //! The search of a stem from the top end down, one top at a time, and for each the logs with it, range by range.
 ghost use Rattle.std.specs.Prelude.{◌≡◌, ℕ, ◌+◌, ◌*◌, ◌<◌, ◌≤◌, ◌-◌, IfOk, OnOk};
-ghost use Rattle.buck_stem.specs.Stem.{IsStem, stem_length};
-ghost use Rattle.buck_stem.specs.points.Profile.{IsMaskBetween};
+ghost use Rattle.buck_stem_shape.specs.Stem.{IsStem, stem_length};
+ghost use Rattle.buck_stem_shape.specs.points.Profile.{IsMaskBetween};
 ghost use Rattle.buck_dp.specs.inner.Logs.{GroundParts, points_of};
 ghost use Rattle.buck_dp.specs.inner.StemGrid.{IsGrid, IsCacheOf, IsPlan, IsEven, HaveRanges, IsNearest, IsRangeTo};
 
@@ -10,7 +10,7 @@ use crate::bid::Bid;
 use crate::offering::{offer_all, offer_some, settle};
 use crate::sheet_cache::SheetCache;
 use buck_record::Memory;
-use buck_stem::{Grades, Profile, Stem};
+use buck_stem_shape::{Grades, Profile, Stem};
 use buck_value::Sheet;
 use std::alloc::Global;
 

@@ -12,7 +12,7 @@ use crate::offering::{Cell, put_row};
 use crate::pricing::{Candidate, ListKey, Term, band_around, put_list, terms_of};
 use buck_apt_instruction::Instruction;
 use buck_record::Memory;
-use buck_stem::Grades;
+use buck_stem_shape::Grades;
 use buck_value::Sheet;
 use std::alloc::{AllocError, Global};
 use std::marker::Model;

@@ -2,7 +2,7 @@
 use Rattle.std.proofs.Common.{◌≡◌, ◌≢◌, ℕ, ◌==◌, ◌<◌, ◌≤◌, ◌↔◌, inl, inr, List, Contains, None, Some, Option, slice_get, position, refl, arith, true≢false}
 use Rattle.std.proofs.lemmas.Bool.{cases_lt, cases_eq}
 use Rattle.buck_apt_instruction.specs.Instruction.{InstructionParts, AssortmentParts}
-use Rattle.buck_stem.specs.Stem.{StemParts, HasGradesOf, grade_at}
+use Rattle.buck_stem_shape.specs.Stem.{StemParts, HasGradesOf, grade_at}
 use Rattle.buck_value.specs.declared.log.Log.{Log}
 use Rattle.buck_value.specs.Allowed.{IsAllowed}
 use Rattle.buck_value.proofs.Classes.{column_some, column_none}

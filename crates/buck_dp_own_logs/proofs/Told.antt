@@ -2,8 +2,8 @@
 use Rattle.std.proofs.Common.{◌≡◌, ◌≢◌, ℕ, zero, suc, ◌+◌, ◌*◌, ◌<◌, ◌≤◌, ◌↔◌, inl, inr, length, Contains, Some, slice_get, slice_index, refl, sym, ◌∙◌, ap, subst, arith}
 use Rattle.std.proofs.lemmas.Bool.{cases_eq}
 use Rattle.buck_apt_instruction.specs.Instruction.{InstructionParts, AssortmentParts}
-use Rattle.buck_stem.specs.Stem.{StemParts, IsStem, stem_length, diameter_at, HasGradesOf}
-use Rattle.buck_stem.specs.points.Profile.{IsMask}
+use Rattle.buck_stem_shape.specs.Stem.{StemParts, IsStem, stem_length, diameter_at, HasGradesOf}
+use Rattle.buck_stem_shape.specs.points.Profile.{IsMask}
 use Rattle.buck_value.specs.declared.log.Log.{Log}
 use Rattle.buck_value.specs.Allowed.{top_of, top_diameter, row_at, column_of}
 use Rattle.buck_value.specs.Wood.{TakesWood}

@@ -1,7 +1,7 @@
 -- What is said of a cutting that someone names.
 use Rattle.std.specs.Prelude.{◌≡◌, ℕ, ◌<◌, List, take, fold, slice_get, IsSomeAnd}
 use Rattle.buck_apt_instruction.specs.Instruction.{InstructionParts}
-use Rattle.buck_stem.specs.Stem.{StemParts}
+use Rattle.buck_stem_shape.specs.Stem.{StemParts}
 use Rattle.buck_value.specs.declared.log.Log.{Log}
 use Rattle.buck_value.specs.Sheet.{SheetParts}
 use Rattle.buck_value.specs.Allowed.{end_of}

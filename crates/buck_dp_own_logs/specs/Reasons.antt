@@ -1,7 +1,7 @@
 -- Why a log can't be cut where it stands: nine reasons, and which of them is reported.
 use Rattle.std.specs.Prelude.{◌≡◌, ◌≢◌, ℕ, ◌+◌, ◌*◌, ◌%◌, ◌<◌, ◌≤◌, ◌⊎◌, List, length, Contains, slice_get, slice_index, IsNone, IsSomeAnd, codes}
 use Rattle.buck_apt_instruction.specs.Instruction.{InstructionParts, AssortmentParts}
-use Rattle.buck_stem.specs.Stem.{StemParts, stem_length, HasGradesOf}
+use Rattle.buck_stem_shape.specs.Stem.{StemParts, stem_length, HasGradesOf}
 use Rattle.buck_value.specs.declared.log.Log.{Log}
 use Rattle.buck_value.specs.Allowed.{top_of, top_diameter, row_at, column_of}
 use Rattle.buck_dp_own_logs.specs.declared.reason.Reason.{Reason}

@@ -1,6 +1,6 @@
 //! Cuttings that someone names.
 ghost use Rattle.std.specs.Prelude.{◌≡◌, ◌+◌, ◌<◌, ◌≤◌, IfSome, IfNone};
-ghost use Rattle.buck_stem.specs.Stem.{IsStem, stem_length};
+ghost use Rattle.buck_stem_shape.specs.Stem.{IsStem, stem_length};
 ghost use Rattle.buck_value.specs.Allowed.{IsAllowed, end_of, top_of};
 ghost use Rattle.buck_dp_own_logs.specs.Reasons.{IsTold};
 ghost use Rattle.buck_dp_own_logs.specs.Judged.{IsJudged};
@@ -8,7 +8,7 @@ ghost use Rattle.buck_dp_own_logs.specs.inner.Measured.{HoldsMeasured};
 
 use crate::reason::Reason;
 use buck_apt_instruction::{Assortment, Instruction};
-use buck_stem::{Grades, Stem};
+use buck_stem_shape::{Grades, Stem};
 use buck_value::{Log, Sheet, column_of, log_worth, row_of, takes};
 
 /// The verdict on a cutting that someone names.

@@ -2,7 +2,7 @@
 //! function.
 ghost use Rattle.std.specs.Prelude.{◌≡◌, ℕ, ◌≤◌, ◌↔◌, List};
 ghost use Rattle.buck_apt_instruction.specs.Instruction.{InstructionParts};
-ghost use Rattle.buck_stem.specs.Stem.{StemParts};
+ghost use Rattle.buck_stem_shape.specs.Stem.{StemParts};
 ghost use Rattle.buck_value.specs.declared.log.Log.{Log};
 ghost use Rattle.buck_value.specs.Sheet.{SheetParts};
 ghost use Rattle.buck_value.specs.Allowed.{IsAllowed};

@@ -29,7 +29,7 @@ pub use Rattle.buck_fleet.specs.Run.{HasRun, HaveRun, HasCut, IsFirstBestCut, Is
 pub use Rattle.std.specs.declared.sync.Arc.{Arc}
 pub use Rattle.std.specs.declared.vec.Vec.{Vec}
 pub use Rattle.std.specs.declared.alloc.Global.{Global}
-pub use Rattle.buck_stem.specs.declared.stem.Stem.{Stem}
+pub use Rattle.buck_stem_shape.specs.declared.stem.Stem.{Stem}
 pub use Rattle.std.proofs.lemmas.List.Elements.{All-pop, All-append, All-cons}
 pub use Rattle.buck_board.specs.declared.board.Board.{Board}
 pub use Rattle.buck_board.specs.declared.seat.BoardSeat.{BoardSeat}

@@ -1,6 +1,6 @@
 -- What calls of a seat answer.
 use Rattle.std.specs.Prelude.{◌≡◌, ℕ, ◌+◌, ◌≤◌, List}
-use Rattle.buck_stem.specs.Stem.{StemParts}
+use Rattle.buck_stem_shape.specs.Stem.{StemParts}
 use Rattle.buck_value.specs.Sheet.{SheetParts}
 use Rattle.buck_book_postings.specs.declared.posting.Posting.TheVariants as posting
 use Rattle.buck_book_postings.specs.Entry.{EntryParts}

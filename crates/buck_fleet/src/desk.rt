@@ -15,7 +15,7 @@ use buck_book_postings::{Book, CutFault, DemandRefusal, Kept, Plan, Posting, Rea
 use buck_dp::Cutting;
 use buck_record::Memory;
 use buck_rule::Standing;
-use buck_stem::Stem;
+use buck_stem_shape::Stem;
 use buck_value::Sheet;
 use std::alloc::Global;
 use std::sync::ledger::{Ledger, Share};

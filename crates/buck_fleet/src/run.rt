@@ -11,7 +11,7 @@ use crate::fleet::Fleet;
 use crate::gate::Gate;
 use crate::seat::{MOST_SEATS, Seat};
 use buck_rule::Standing;
-use buck_stem::Stem;
+use buck_stem_shape::Stem;
 use std::alloc::Global;
 use std::sync::ledger::Ledger;
 use std::sync::{Arc, Wait};

@@ -9,7 +9,7 @@ use buck_board::BoardSeat;
 use buck_book_postings::{Demand, Entry, Kept, Plan};
 use buck_dp::Planner;
 use buck_record::Memory;
-use buck_stem::Stem;
+use buck_stem_shape::Stem;
 use buck_value::Sheet;
 use std::alloc::Global;
 use std::marker::Model;

@@ -10,7 +10,7 @@ use Rattle.std.specs.Prelude.{Option, Some}
 use Rattle.std.specs.List.{filter}
 use Rattle.std.specs.Arc.{arc_value}
 use Rattle.buck_apt_instruction.specs.Instruction.{InstructionParts}
-use Rattle.buck_stem.specs.Stem.{StemParts}
+use Rattle.buck_stem_shape.specs.Stem.{StemParts}
 use Rattle.buck_book_postings.specs.declared.posting.Posting.{Posting}
 use Rattle.buck_book_postings.specs.declared.posting.Posting.TheVariants.{Cut}
 use Rattle.buck_book_postings.specs.declared.posting.TheConstants.{MOST_POSTINGS}

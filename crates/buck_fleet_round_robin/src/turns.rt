@@ -9,7 +9,7 @@ use buck_apt_instruction::Instruction;
 use buck_book_cutter::Cutter;
 use buck_book_postings::{Book, CutFault, MOST_POSTINGS};
 use buck_rule::{Rule, Standing};
-use buck_stem::Stem;
+use buck_stem_shape::Stem;
 use std::alloc::Global;
 use std::sync::Arc;
 

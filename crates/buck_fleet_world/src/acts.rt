@@ -15,7 +15,7 @@ use crate::turns::{answer, at, idle, set};
 use buck_book_postings::{Book, CutFault, DemandRefusal, Plan, Refusal};
 use buck_record::Memory;
 use buck_rule::Standing;
-use buck_stem::Stem;
+use buck_stem_shape::Stem;
 use std::alloc::Global;
 use std::sync::Arc;
 

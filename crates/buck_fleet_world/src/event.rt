@@ -2,7 +2,7 @@
 ghost use Rattle.std.specs.Prelude.{◌≡◌};
 ghost use Rattle.buck_fleet_world.specs.Run.{harvester_of_event};
 
-use buck_stem::Stem;
+use buck_stem_shape::Stem;
 use std::sync::Arc;
 
 /// One atomic step of one harvester. In each, `harvester` is its number, from 1.

@@ -4,7 +4,7 @@ use Rattle.std.proofs.lemmas.Bool.Decides.{eqb_tells}
 use Rattle.std.proofs.lemmas.List.Sums.{sum_by_more}
 use Rattle.buck_apt_instruction.specs.declared.class.Class.{Class}
 use Rattle.buck_apt_instruction.specs.Instruction.{InstructionParts, IsClass, index_of}
-use Rattle.buck_stem.specs.Stem.{StemParts}
+use Rattle.buck_stem_shape.specs.Stem.{StemParts}
 use Rattle.buck_value.specs.declared.log.Log.{Log}
 use Rattle.buck_value.specs.Allowed.{class_of}
 use Rattle.buck_book_postings.specs.Counts.{is_class, class_logs}

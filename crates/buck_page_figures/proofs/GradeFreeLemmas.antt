@@ -10,7 +10,7 @@ use Rattle.std.proofs.lemmas.List.Sums.{sum_by-cons}
 use Rattle.buck_apt_instruction.specs.declared.class.Class.{Class}
 use Rattle.buck_apt_instruction.specs.Instruction.{AssortmentParts, InstructionParts, IsAssortment, IsInstruction, IsWithin, classes_of, index_of, place_in}
 use Rattle.buck_apt_instruction.specs.Grades.{all_grades, grade_free, taking_all}
-use Rattle.buck_stem.specs.Stem.{StemParts, HasGradesOf, grade_at}
+use Rattle.buck_stem_shape.specs.Stem.{StemParts, HasGradesOf, grade_at}
 use Rattle.buck_value.specs.declared.log.Log.{Log}
 use Rattle.buck_value.specs.Sheet.{base_prices, price_of}
 use Rattle.buck_value.specs.Volume.{volume, worth_at}

@@ -7,7 +7,7 @@ use Rattle.buck_book_postings.specs.declared.posting.Posting.{Posting}
 use Rattle.buck_book_postings.proofs.Extend.{slice_get-push}
 use Rattle.buck_page_figures.specs.declared.sums.Sums.{Sums}
 use Rattle.buck_page_figures.specs.Figures.{cuts_in, demands_in, logs_in, volume_in, length_in, logged_in, trim_in, worth_in, at_base_in, IsUnsteered, AreUnsteered}
-use Rattle.buck_stem.specs.Stem.{StemParts, IsStem, stem_length}
+use Rattle.buck_stem_shape.specs.Stem.{StemParts, IsStem, stem_length}
 use Rattle.buck_value.specs.declared.log.Log.{Log}
 use Rattle.buck_value.specs.Sheet.{SheetParts, IsSheet}
 use Rattle.buck_value.specs.Allowed.{IsAllowed, end_of, trim_of}

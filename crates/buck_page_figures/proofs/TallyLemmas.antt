@@ -20,7 +20,7 @@ use Rattle.buck_page_figures.specs.Figures.{IsUnsteered, cuts_in, demands_in}
 use Rattle.buck_page_figures.specs.Sums.{AreSums}
 use Rattle.buck_page_figures.specs.inner.Adding.{AreSumsTogether, IsPassed, logs_of}
 use Rattle.buck_apt_instruction.specs.Instruction.{classes, index_of}
-use Rattle.buck_stem.specs.Stem.{StemParts}
+use Rattle.buck_stem_shape.specs.Stem.{StemParts}
 use Rattle.buck_book_postings.specs.Counts.{AreClassCounts, class_logs_in}
 use Rattle.buck_page_figures.specs.inner.Counted.{AreCountsOn, AreCountsWith}
 use Rattle.buck_page_figures.specs.Owns.{IsOwn, own_of, is_cut_of}

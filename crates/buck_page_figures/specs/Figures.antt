@@ -1,7 +1,7 @@
 -- The figures of a journal: what each posting comes to, as it was cut and as the best cuttings at base prices.
 use Rattle.std.specs.Prelude.{◌≡◌, ℕ, List, length, sum_by, slice_get, Some}
 use Rattle.buck_apt_instruction.specs.Instruction.{InstructionParts}
-use Rattle.buck_stem.specs.Stem.{StemParts, stem_length}
+use Rattle.buck_stem_shape.specs.Stem.{StemParts, stem_length}
 use Rattle.buck_value.specs.declared.log.Log.{Log}
 use Rattle.buck_value.specs.Sheet.{SheetParts, sheet_of, base_prices}
 use Rattle.buck_value.specs.Allowed.{top_diameter, trim_of}

@@ -1,7 +1,7 @@
 -- Logs as they were cut.
 use Rattle.std.specs.Prelude.{◌≡◌, ◌≢◌, ℕ, ◌<◌, ◌≤◌, List, length, slice_get, slice_index, Option, Some, None}
 use Rattle.buck_apt_instruction.specs.Instruction.{IsClass, index_of}
-use Rattle.buck_stem.specs.Stem.{StemParts}
+use Rattle.buck_stem_shape.specs.Stem.{StemParts}
 use Rattle.buck_value.specs.declared.log.Log.{Log}
 use Rattle.buck_value.specs.Sheet.{SheetParts, price_of}
 use Rattle.buck_value.specs.Allowed.{class_of, kind_in, top_diameter, worth_of}

@@ -1,7 +1,7 @@
 //! What cuts and demands come to, added up.
 ghost use Rattle.std.specs.Prelude.{◌≡◌, ◌+◌, ◌*◌, ◌≤◌, [], ◌∷◌, All, IfOk, OnOk};
 ghost use Rattle.buck_apt_instruction.specs.Instruction.{InstructionParts};
-ghost use Rattle.buck_stem.specs.Stem.{IsStem};
+ghost use Rattle.buck_stem_shape.specs.Stem.{IsStem};
 ghost use Rattle.buck_value.specs.Allowed.{IsAllowed};
 ghost use Rattle.buck_dp.specs.Best.{IsAdmissible, cutting_worth};
 ghost use Rattle.buck_book_postings.specs.Entry.{EntryParts, DemandParts};
@@ -16,7 +16,7 @@ use crate::sums::Sums;
 use buck_book_postings::{Entry, Posting};
 use buck_dp::{Cutting, Planner};
 use buck_record::Memory;
-use buck_stem::Stem;
+use buck_stem_shape::Stem;
 use buck_value::{Log, Sheet, valuation_of_allowed, volume_of};
 use std::alloc::Global;
 

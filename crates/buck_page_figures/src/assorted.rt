@@ -9,7 +9,7 @@ use crate::adding::{Wood, wood_in};
 use crate::figures::Part;
 use buck_book_postings::Posting;
 use buck_record::Memory;
-use buck_stem::Stem;
+use buck_stem_shape::Stem;
 use buck_value::{Log, Sheet};
 use std::alloc::Global;
 

@@ -6,7 +6,7 @@ ghost use Rattle.buck_page_figures.specs.inner.Counted.{AreCountsOn, AreCountsWi
 
 use buck_book_postings::Posting;
 use buck_record::Memory;
-use buck_stem::Stem;
+use buck_stem_shape::Stem;
 use buck_value::{Log, Sheet, class_of};
 use std::alloc::Global;
 

@@ -11,7 +11,7 @@ use crate::figures::{Cut, Piece, Place};
 use buck_book_postings::Entry;
 use buck_dp::{Planner, worth};
 use buck_record::Memory;
-use buck_stem::Stem;
+use buck_stem_shape::Stem;
 use buck_value::{Log, Sheet, valuation_of_allowed, volume_of};
 use std::alloc::Global;
 

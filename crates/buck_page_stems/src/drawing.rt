@@ -1,12 +1,12 @@
 //! Stems from the side, with the logs that were cut of them.
 ghost use Rattle.std.specs.Prelude.{◌<◌, ◌≤◌, ◌^◌};
-ghost use Rattle.buck_stem.specs.Stem.{stem_length};
+ghost use Rattle.buck_stem_shape.specs.Stem.{stem_length};
 
 use crate::picks::Pick;
 use buck_page_figures::{Cut, Piece};
 use buck_page_text::{Millionths, letter, tick_step};
 use buck_record::Memory;
-use buck_stem::Stem;
+use buck_stem_shape::Stem;
 use std::alloc::Global;
 
 /// The scale of all drawn stems: how long a drawing is, in mm, and the greatest diameter, in mm.

@@ -4,7 +4,7 @@ use buck_apt_instruction::Instruction;
 use buck_page_figures::Piece;
 use buck_page_text::{Percent, length_text, letter, percent_at, tick_step};
 use buck_record::Memory;
-use buck_stem::Stem;
+use buck_stem_shape::Stem;
 use buck_value::Log;
 use std::fmt;
 

@@ -1,5 +1,5 @@
 -- White bytes, and texts without them at their ends.
-use Rattle.std.proofs.Common.{◌≡◌, ℕ, ◌+◌, ◌-◌, ◌<◌, false, true, List, [], ◌∷◌, get_or, length, reverse, take, drop, refl, sym, ap, ◌∙◌, arith, inl, inr, ◌⊎◌, rules}
+use Rattle.std.proofs.Common.{◌≡◌, ℕ, ◌+◌, ◌-◌, ◌<◌, ◌≤◌, false, true, List, [], ◌∷◌, get_or, length, reverse, take, drop, refl, sym, ap, ◌∙◌, arith, inl, inr, ◌⊎◌, rules}
 use Rattle.std.specs.List.{suffix_len, prefix_len}
 use Rattle.std.proofs.Math.Nat.{add-zero}
 use Rattle.std.proofs.lemmas.Bool.{cases_lt}
@@ -18,6 +18,17 @@ pub start_past : (xs : List ℕ) → 0 < length xs → is_white (get_or xs 0 0) 
     → trim_start (take (length xs - 1) (drop 1 xs)) ≡ trim_start xs
 start_past [] some white = absurd (omega arith)
 start_past (x ∷ xs) some white = ap trim_start (take_rest (x ∷ xs) 1) ∙ sym (start_white x xs white)
+
+pub start_past_four : (xs : List ℕ) → 4 ≤ length xs → is_white (get_or xs 0 0) ≡ true
+    → is_white (get_or xs 1 0) ≡ true → is_white (get_or xs 2 0) ≡ true → is_white (get_or xs 3 0) ≡ true
+    → trim_start (take (length xs - 4) (drop 4 xs)) ≡ trim_start xs
+start_past_four [] some a b c d = absurd (omega arith)
+start_past_four (w ∷ []) some a b c d = absurd (omega arith)
+start_past_four (w ∷ x ∷ []) some a b c d = absurd (omega arith)
+start_past_four (w ∷ x ∷ y ∷ []) some a b c d = absurd (omega arith)
+start_past_four (w ∷ x ∷ y ∷ z ∷ xs) some a b c d =
+    ap trim_start (take_rest (w ∷ x ∷ y ∷ z ∷ xs) 4) ∙ sym (start_white z xs d) ∙ sym (start_white y _ c)
+    ∙ sym (start_white x _ b) ∙ sym (start_white w _ a)
 
 pub end_past : (xs : List ℕ) → 0 < length xs → is_white (get_or xs (length xs - 1) 0) ≡ true
     → trim_end (take (length xs - 1) xs) ≡ trim_end xs

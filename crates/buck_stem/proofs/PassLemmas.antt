@@ -7,11 +7,11 @@ use Rattle.std.proofs.lemmas.List.Elements.{All-from_recursion}
 use Rattle.buck_record.specs.checking.Check.{◌>>=◌}
 use Rattle.buck_record.specs.checking.Rules.{within, all_within, is_rising}
 use Rattle.buck_record.proofs.PassLemmas.{passed, check_ok, then_ok, each_ok, both, within_ok, ranged, counted}
-use Rattle.buck_stem.specs.declared.file.draft.Draft.{Draft}
-use Rattle.buck_stem.specs.Stem.{IsGrade, IsRisingFrom}
-use Rattle.buck_stem.specs.declared.file.slots.TheConstants.{STEM, SPECIES, SAMPLES, MOST_SAMPLES, STARTS, GRADES, MOST_ZONES}
-use Rattle.buck_stem.specs.declared.file.fault.StmFault.TheVariants.{Range, Count}
-use Rattle.buck_stem.specs.file.Stm.{checked, starts, grades, zones_of, draft_range, draft_order, draft_count, in_range, in_order, in_number, parts_of}
+use Rattle.buck_stem.specs.declared.draft.Draft.{Draft}
+use Rattle.buck_stem_shape.specs.Stem.{IsGrade, IsRisingFrom}
+use Rattle.buck_stem_shape.specs.declared.slots.TheConstants.{STEM, SPECIES, SAMPLES, MOST_SAMPLES, STARTS, GRADES, MOST_ZONES}
+use Rattle.buck_stem.specs.declared.fault.StmFault.TheVariants.{Range, Count}
+use Rattle.buck_stem.specs.Stm.{checked, starts, grades, zones_of, draft_range, draft_order, draft_count, in_range, in_order, in_number, parts_of}
 use Rattle.buck_stem.specs.inner.Ready.{IsReadyDraft, AreNumbers}
 
 pub first_within : (low high n : ℕ) (ns : List ℕ) → all_within low high (n ∷ ns) ≡ true

@@ -1,20 +1,16 @@
 //! Felled stems: their diameters and grades along the length, and the files that they are read from.
 #![tactic(auto)]
 
-mod body;
-mod file;
-mod grades;
+mod draft;
+mod fault;
 pub mod laws;
-mod points;
-mod same;
-mod stem;
+mod lines;
+mod parallel;
+mod plain;
+mod reading;
+mod rules;
 
-pub use buck_record::Memory;
-pub use file::described::ITEMS;
-pub use file::fault::StmFault;
-pub use file::parallel::read_stm_in_parts;
-pub use file::reading::read_stm;
-pub use file::slots;
-pub use grades::Grades;
-pub use points::profile::{Profile, ProfileLists};
-pub use stem::{Stem, StemFault};
+pub use buck_stem_shape::{Grades, ITEMS, Memory, Profile, ProfileLists, Stem, StemFault, slots};
+pub use fault::StmFault;
+pub use parallel::read_stm_in_parts;
+pub use reading::read_stm;

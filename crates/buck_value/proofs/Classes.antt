@@ -10,7 +10,7 @@ use Rattle.std.proofs.lemmas.List.Sums.{fails_before_first}
 use Rattle.buck_record.proofs.TableLemmas.{place-none}
 use Rattle.buck_apt_instruction.specs.Instruction.{InstructionParts, AssortmentParts, IsAssortment, IsInstruction, IsClass, IsOnModule}
 use Rattle.buck_apt_instruction.specs.declared.class.Class.{Class}
-use Rattle.buck_stem.specs.Stem.{StemParts}
+use Rattle.buck_stem_shape.specs.Stem.{StemParts}
 use Rattle.buck_value.specs.declared.log.Log.{Log}
 use Rattle.buck_value.specs.Sheet.{SheetParts, price_of}
 use Rattle.buck_value.specs.Volume.{volume, worth_at}

@@ -1,8 +1,8 @@
 -- The grades of a mask.
 use Rattle.std.proofs.Common.{ℕ, ◌↔◌, List, Contains, refl, subst}
-use Rattle.buck_stem.specs.Stem.{StemParts, IsStem, IsGrade, HasGrade, HasGradesOf, grade_at}
-use Rattle.buck_stem.specs.points.Profile.{IsMask}
-use Rattle.buck_stem.proofs.Tables.{grade_at_is}
+use Rattle.buck_stem_shape.specs.Stem.{StemParts, IsStem, IsGrade, HasGrade, HasGradesOf, grade_at}
+use Rattle.buck_stem_shape.specs.points.Profile.{IsMask}
+use Rattle.buck_stem_shape.proofs.Tables.{grade_at_is}
 use Rattle.buck_value.specs.Wood.{AllIn}
 
 -- a mask has allowed grades alone exactly if its places have

@@ -1,7 +1,7 @@
 -- A log is worth at most 70,000,000,000 millionths for each millimetre.
 use Rattle.std.proofs.Common.{ℕ, ◌*◌, ◌≤◌, true, false, nat_eq, if◌then◌else◌, slice_get, arith, mul-le-mul_right}
 use Rattle.buck_apt_instruction.specs.Instruction.{index_of}
-use Rattle.buck_stem.specs.Stem.{StemParts}
+use Rattle.buck_stem_shape.specs.Stem.{StemParts}
 use Rattle.buck_value.specs.declared.log.Log.{Log}
 use Rattle.buck_value.specs.Sheet.{SheetParts, IsSheet, price_of}
 use Rattle.buck_value.specs.Volume.{volume, worth_at}

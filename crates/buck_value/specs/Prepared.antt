@@ -1,7 +1,7 @@
 -- A stem prepared for cutting under a sheet, as clauses see it.
 use Rattle.std.specs.Prelude.{ℕ, ◌+◌, ◌*◌, ◌/◌, List, [], slice_get, slice_index, unwrap_or}
 use Rattle.std.specs.Option.{option_map}
-use Rattle.buck_stem.specs.Stem.{StemParts, stem_length}
+use Rattle.buck_stem_shape.specs.Stem.{StemParts, stem_length}
 use Rattle.buck_value.specs.declared.log.Log.{Log}
 use Rattle.buck_value.specs.Sheet.{SheetParts}
 use Rattle.buck_value.specs.Allowed.{log_of}

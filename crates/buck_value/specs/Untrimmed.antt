@@ -2,7 +2,7 @@
 -- contract leads here.
 use Rattle.std.specs.Prelude.{◌≡◌, ℕ, ◌%◌, ◌≤◌, All, Contains, slice_get, Some}
 use Rattle.buck_apt_instruction.specs.Instruction.{InstructionParts, AssortmentParts}
-use Rattle.buck_stem.specs.Stem.{StemParts, stem_length, HasGradesOf}
+use Rattle.buck_stem_shape.specs.Stem.{StemParts, stem_length, HasGradesOf}
 use Rattle.buck_value.specs.declared.log.Log.{Log}
 use Rattle.buck_value.specs.Allowed.{IsBought, column_of, top_of, top_diameter}
 

@@ -1,7 +1,7 @@
 //! What follows from the definitions, for all sheets, stems and logs: each law is the contract of an empty function.
 ghost use Rattle.std.specs.Prelude.{ℕ, ◌*◌, ◌≤◌, ◌↔◌, All, slice_index};
 ghost use Rattle.buck_apt_instruction.specs.Instruction.{InstructionParts, AssortmentParts, IsInstruction, IsAssortment, IsClass};
-ghost use Rattle.buck_stem.specs.Stem.{StemParts};
+ghost use Rattle.buck_stem_shape.specs.Stem.{StemParts};
 ghost use Rattle.buck_value.specs.declared.log.Log.{Log};
 ghost use Rattle.buck_value.specs.Sheet.{SheetParts, IsSheet};
 ghost use Rattle.buck_value.specs.Untrimmed.{HasNoTrim, IsAllowedUntrimmed};

@@ -1,6 +1,6 @@
 //! A stem prepared for cutting under a sheet: which log is allowed from point to point, and its worth, from tables.
 ghost use Rattle.std.specs.Prelude.{◌≡◌, ◌<◌, ◌≤◌, IfOk, IfSome, IfNone, length};
-ghost use Rattle.buck_stem.specs.Stem.{IsStem};
+ghost use Rattle.buck_stem_shape.specs.Stem.{IsStem};
 ghost use Rattle.buck_value.specs.Sheet.{IsSheet};
 ghost use Rattle.buck_value.specs.Allowed.{IsAllowed, class_of, worth_of};
 ghost use Rattle.buck_value.specs.Prepared.{points_of, lengths_of, log_at};
@@ -10,7 +10,7 @@ use crate::sheet::Sheet;
 use crate::worth::{measure, worth_in_class};
 use buck_apt_instruction::Class;
 use buck_record::Memory;
-use buck_stem::{Profile, Stem};
+use buck_stem_shape::{Profile, Stem};
 use std::alloc::Global;
 use std::marker::Model;
 
@@ -25,7 +25,7 @@ pub struct Prepared<'s, 't> {
 
 impl<'s, 't> Model for Prepared<'s, 't> {
     ghost use Rattle.std.specs.Prelude.{◌≡◌};
-    ghost use Rattle.buck_stem.specs.points.Profile.{profile_of};
+    ghost use Rattle.buck_stem_shape.specs.points.Profile.{profile_of};
     ghost use Rattle.buck_value.specs.Sheet.{IsSheet};
     ghost use Rattle.buck_value.specs.Prepared.{PreparedParts};
 

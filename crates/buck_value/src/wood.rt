@@ -3,7 +3,7 @@ ghost use Rattle.std.specs.Prelude.{◌↔◌, IsTrue};
 ghost use Rattle.buck_value.specs.Wood.{AllIn, TakesWood};
 
 use buck_apt_instruction::Assortment;
-use buck_stem::Grades;
+use buck_stem_shape::Grades;
 
 /// Whether each of some grades is one of these.
 fn are_in(grades: Grades, list: &[u8]) -> bool

@@ -7,8 +7,8 @@
 //! top diameter, its column the place of its length.
 ghost use Rattle.std.specs.Prelude.{◌≡◌, ◌*◌, ◌<◌, ◌≤◌, ◌%◌, ◌==◌, Some, IfSome, IfNone, slice_get, length, position};
 ghost use Rattle.buck_apt_instruction.specs.Instruction.{IsAssortment, IsClass, IsOnModule};
-ghost use Rattle.buck_stem.specs.Stem.{IsStem, stem_length, diameter_at};
-ghost use Rattle.buck_stem.specs.points.Profile.{IsMask, profile_of};
+ghost use Rattle.buck_stem_shape.specs.Stem.{IsStem, stem_length, diameter_at};
+ghost use Rattle.buck_stem_shape.specs.points.Profile.{IsMask, profile_of};
 ghost use Rattle.buck_value.specs.Sheet.{IsSheet, price_of};
 ghost use Rattle.buck_value.specs.Allowed.{IsAllowed, Allows, IsBought, log_of, top_diameter, row_at, class_in, class_of, kind_in, worth_of};
 ghost use Rattle.buck_value.specs.Volume.{volume, worth_at};
@@ -18,7 +18,7 @@ use crate::log::Log;
 use crate::sheet::Sheet;
 use crate::wood::takes;
 use buck_apt_instruction::{Assortment, Class};
-use buck_stem::{Grades, Profile, Stem};
+use buck_stem_shape::{Grades, Profile, Stem};
 
 /// The volume in cm³ of a cylinder, rounded down, from its diameter and its length in mm. A quarter of pi is 0.7854.
 pub fn volume_of(diameter: u32, length: u32) -> u64

@@ -2,8 +2,8 @@
 use Rattle.std.specs.Prelude.{◌≡◌, ◌⊎◌, ℕ, ◌+◌, ◌<◌, ◌≤◌, List, [], length, Option, None, Result, Ok, Err, slice_index_or}
 use Rattle.buck_apt_instruction.specs.Instruction.{InstructionParts}
 use Rattle.buck_apt.specs.Apt.{apt_of}
-use Rattle.buck_stem.specs.Stem.{StemParts}
-use Rattle.buck_stem.specs.file.Stm.{stm_of}
+use Rattle.buck_stem_shape.specs.Stem.{StemParts}
+use Rattle.buck_stem.specs.Stm.{stm_of}
 use Rattle.buck_book_postings.specs.History.{IsLawful}
 use Rattle.buck_book_journal.specs.Journal.{JournalParts, history_of}
 use Rattle.buck_book_journal.specs.Reading.{journal_of}

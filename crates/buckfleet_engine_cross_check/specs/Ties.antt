@@ -4,7 +4,7 @@ use Rattle.std.specs.List.{flat_map}
 use Rattle.std.specs.Option.{option_to_list}
 use Rattle.buck_apt_instruction.specs.declared.class.Class.{Class}
 use Rattle.buck_apt_instruction.specs.Instruction.{InstructionParts, IsClass, index_of}
-use Rattle.buck_stem.specs.Stem.{StemParts}
+use Rattle.buck_stem_shape.specs.Stem.{StemParts}
 use Rattle.buck_rule.specs.Named.{price_by}
 use Rattle.buck_book_postings.specs.declared.posting.Posting.{Posting}
 use Rattle.buck_book_postings.specs.History.{HistoryParts, standing_of}

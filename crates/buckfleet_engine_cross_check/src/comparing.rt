@@ -7,7 +7,7 @@ ghost use Rattle.buckfleet_engine_cross_check.specs.Ties.{DifferBy, IsStemsFault
 ghost use Rattle.buckfleet_engine_cross_check.specs.inner.Tie.{stem_of_own, stems_cut_in, stems_in_lists};
 
 use buck_book_postings::Posting;
-use buck_stem::Stem;
+use buck_stem_shape::Stem;
 use buckfleet_engine_files::CheckFault;
 
 /// The stem that a posting cut, if it is a harvester's.

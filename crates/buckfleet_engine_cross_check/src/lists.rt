@@ -4,7 +4,7 @@ ghost use Rattle.buckfleet_engine_files.specs.Reading.{IfStopped};
 ghost use Rattle.buckfleet_engine_cross_check.specs.Answers.{IsStemsFileFault};
 ghost use Rattle.buckfleet_engine_cross_check.specs.inner.Tie.{AreStemsOf, stems_in_lists};
 
-use buck_stem::Stem;
+use buck_stem_shape::Stem;
 use buckfleet_engine_files::{EngineFault, Workers, read_stems};
 use std::alloc::Global;
 use std::io;

@@ -21,7 +21,7 @@ use buck_apt_instruction::{Instruction, Settings};
 use buck_book_journal::{Journal, ReplayFault};
 use buck_record::Memory;
 use buck_rule::NamedRule;
-use buck_stem::Stem;
+use buck_stem_shape::Stem;
 use buckfleet_engine_files::{
     Both, CheckFault, EngineFault, Workers, lawful_text, read_instruction_with, read_postings,
     unlawful, write_text,

@@ -1,7 +1,7 @@
 -- The statuses of faults.
 use Rattle.std.proofs.Common.{◌≡◌, ◌<◌, ℕ, List, [], ◌∷◌, arith}
 use Rattle.buck_apt.specs.Faults.{apt_numbers}
-use Rattle.buck_stem.specs.file.Faults.{stm_numbers}
+use Rattle.buck_stem.specs.Faults.{stm_numbers}
 use Rattle.buck_book_journal.specs.Faults.{journal_numbers, replay_numbers}
 use Rattle.buck_fleet_close_fault.specs.Faults.{close_numbers}
 use Rattle.buckfleet_engine_files.specs.declared.fault.EngineFault.{EngineFault}

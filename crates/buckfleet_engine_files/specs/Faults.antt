@@ -3,7 +3,7 @@ use Rattle.std.specs.Prelude.{ℕ, List, [], ◌∷◌, ◌++◌, codes}
 use Rattle.buck_record.specs.writing.Written.{spelled}
 use Rattle.buck_record.specs.writing.Line.{line_of}
 use Rattle.buck_apt.specs.Faults.{apt_numbers}
-use Rattle.buck_stem.specs.file.Faults.{stm_numbers}
+use Rattle.buck_stem.specs.Faults.{stm_numbers}
 use Rattle.buck_book_journal.specs.Faults.{journal_numbers, replay_numbers}
 use Rattle.buck_fleet_close_fault.specs.Faults.{close_numbers}
 use Rattle.buckfleet_engine_files.specs.Told.{check_numbers}

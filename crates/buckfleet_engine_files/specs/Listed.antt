@@ -1,7 +1,7 @@
 -- Stem files that are accepted, and the stems that a harvester cut.
 use Rattle.std.specs.Prelude.{◌<◌, ℕ, List, map, Option, None, slice_index_or}
-use Rattle.buck_stem.specs.Stem.{StemParts}
-use Rattle.buck_stem.specs.file.Stm.{stm_of}
+use Rattle.buck_stem_shape.specs.Stem.{StemParts}
+use Rattle.buck_stem.specs.Stm.{stm_of}
 use Rattle.buck_book_postings.specs.History.{HistoryParts}
 use Rattle.buck_book_postings.specs.Replies.{stem_cut, replies_of}
 use Rattle.buckfleet_engine_files.specs.Reading.{IsAccepted}

@@ -3,7 +3,7 @@ use Rattle.std.specs.Prelude.{◌≡◌, ◌⊎◌, List, ℕ, Result, Ok, Err, 
 use Rattle.buck_record.specs.checking.Check.{◌>>=◌}
 use Rattle.buck_apt_instruction.specs.Instruction.{InstructionParts}
 use Rattle.buck_apt.specs.Apt.{apt_of}
-use Rattle.buck_stem.specs.file.Stm.{stm_of}
+use Rattle.buck_stem.specs.Stm.{stm_of}
 use Rattle.buckfleet_engine_files.specs.declared.fault.EngineFault.{EngineFault}
 use Rattle.buckfleet_engine_files.specs.declared.fault.EngineFault.TheVariants.{Apt, Stm, Memory, Read, Journal, Seats}
 use Rattle.buck_apt.specs.declared.fault.AptFault.{AptFault}

@@ -1,6 +1,6 @@
 //! Who looks on at a run.
 use buck_apt_instruction::Instruction;
-use buck_stem::Stem;
+use buck_stem_shape::Stem;
 use std::sync::Arc;
 
 /// A stem, or a share of one.

@@ -1,7 +1,7 @@
 //! Files that are read to their end, and the instruction and the stems that they have.
 ghost use Rattle.std.specs.Prelude.{◌≡◌, ◌⊎◌, Ok, OnOk, IfOk, IfErr, IfSome};
 ghost use Rattle.buck_apt.specs.Apt.{apt_of};
-ghost use Rattle.buck_stem.specs.file.Stm.{stm_of};
+ghost use Rattle.buck_stem.specs.Stm.{stm_of};
 ghost use Rattle.buckfleet_engine_files.specs.declared.fault.EngineFault.TheVariants.{Apt, Memory, Read, Stm};
 ghost use Rattle.buckfleet_engine_files.specs.Reading.{IsAccepted, IsAptFault, IsStmFault, IsWithinLimit, Says, apt_with};
 ghost use Rattle.buckfleet_engine_files.specs.Reading.{AreRefused};
@@ -10,7 +10,8 @@ use crate::fault::EngineFault;
 use crate::workers::Workers;
 use buck_apt::{AptFault, read_apt};
 use buck_apt_instruction::{Instruction, Settings};
-use buck_stem::{Stem, StmFault};
+use buck_stem::StmFault;
+use buck_stem_shape::Stem;
 use std::alloc::Global;
 use std::io;
 

@@ -2,7 +2,7 @@
 ghost use Rattle.std.specs.Prelude.{◌≢◌, ◌<◌, ◌≤◌, length, OnOk, IfOk, IfErr};
 ghost use Rattle.std.specs.Thread.{IsSync};
 ghost use Rattle.buck_record.specs.Reading.{Gives, listed};
-ghost use Rattle.buck_stem.specs.file.Stm.{stm_of};
+ghost use Rattle.buck_stem.specs.Stm.{stm_of};
 ghost use Rattle.buck_book_postings.specs.History.{IsLawful};
 ghost use Rattle.buck_book_postings.specs.declared.posting.TheConstants.{MOST_POSTINGS};
 ghost use Rattle.buck_book_journal.specs.Journal.{history_of};
@@ -14,7 +14,8 @@ use buck_apt_instruction::Instruction;
 use buck_book_journal::{Journal, JournalFault, ReplayFault};
 use buck_book_reader::{read_journal, read_journal_in_parts};
 use buck_book_replay::{replay, replay_in_parts};
-use buck_stem::{Stem, StmFault, read_stm, read_stm_in_parts};
+use buck_stem::{StmFault, read_stm, read_stm_in_parts};
+use buck_stem_shape::Stem;
 use std::alloc::Global;
 use std::marker::Sync;
 use std::sync::Arc;

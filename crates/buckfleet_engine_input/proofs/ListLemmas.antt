@@ -9,9 +9,9 @@ use Rattle.std.specs.Prelude.{slice_index_or, sum_by}
 use Rattle.std.proofs.lemmas.List.{length-map}
 use Rattle.std.proofs.lemmas.List.Sums.{sum_by-cons}
 use Rattle.buck_apt.specs.Apt.{apt_of}
-use Rattle.buck_stem.specs.Stem.{StemParts}
-use Rattle.buck_stem.specs.declared.stem.Stem.{Stem}
-use Rattle.buck_stem.specs.file.Stm.{stm_of}
+use Rattle.buck_stem_shape.specs.Stem.{StemParts}
+use Rattle.buck_stem_shape.specs.declared.stem.Stem.{Stem}
+use Rattle.buck_stem.specs.Stm.{stm_of}
 use Rattle.buck_book_postings.specs.Replies.{stems_of, stems_at}
 use Rattle.buckfleet_engine_files.specs.declared.fault.EngineFault.{EngineFault}
 use Rattle.buck_fleet_round_robin.specs.Turn.{stems_in_all}

@@ -2,14 +2,14 @@
 ghost use Rattle.std.specs.Prelude.{◌≡◌, ◌≢◌, ◌<◌, ◌≤◌, length, map, drop, IfOk, IfErr, OnOk, Ok};
 ghost use Rattle.std.specs.Result.{IsErrAnd};
 ghost use Rattle.buck_apt.specs.Apt.{apt_of};
-ghost use Rattle.buck_stem.specs.file.Stm.{stm_of};
+ghost use Rattle.buck_stem.specs.Stm.{stm_of};
 ghost use Rattle.buck_book_postings.specs.Replies.{stems_of};
 ghost use Rattle.buckfleet_engine_files.specs.declared.fault.EngineFault.TheVariants.{Full, Seats};
 ghost use Rattle.buckfleet_engine_files.specs.Reading.{IfStopped, IsAccepted, IsStmFault, Says, apt_with};
 ghost use Rattle.buckfleet_engine_input.specs.Harvest.{AreListsOf, AreNoSeats, IsFleetFault, IsListFault};
 
 use buck_apt_instruction::{Instruction, Settings};
-use buck_stem::Stem;
+use buck_stem_shape::Stem;
 use buckfleet_engine_files::{EngineFault, Workers, read_instruction, read_stems};
 use std::alloc::Global;
 use std::io;

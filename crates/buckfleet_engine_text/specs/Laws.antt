@@ -1,7 +1,7 @@
 -- Laws of the definitions.
 use Rattle.std.specs.Prelude.{◌≡◌, ℕ, List}
 use Rattle.buck_apt_instruction.specs.Instruction.{InstructionParts}
-use Rattle.buck_stem.specs.Stem.{StemParts}
+use Rattle.buck_stem_shape.specs.Stem.{StemParts}
 use Rattle.buckfleet_engine_text.specs.Bucking.{IsBuckText}
 
 -- an instruction and stems have no more than one text

@@ -12,7 +12,7 @@ use crate::fault::TextFault;
 use buck_apt_instruction::Instruction;
 use buck_dp::Planner;
 use buck_record::{Memory, put_line, put_number, put_numbers};
-use buck_stem::Stem;
+use buck_stem_shape::Stem;
 use buck_value::{Log, Sheet, Valuation, valuation_of_allowed};
 use std::alloc::Global;
 use std::sync::Arc;

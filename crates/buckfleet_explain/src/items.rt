@@ -13,7 +13,7 @@ pub(crate) struct Part<'a> {
 /// The item of a kind of file, by its number and its kind. A stem file's may stand in a request alone.
 pub(crate) fn item_of(file: &str, number: u16, kind: u16) -> Option<&'static Described> {
     let (own, more): (&'static [Described], &'static [Described]) = if file == "stm" {
-        (&buck_stem::ITEMS, &REQUEST)
+        (&buck_stem_shape::ITEMS, &REQUEST)
     } else {
         (&buck_apt_instruction::ITEMS, &[])
     };

@@ -3,8 +3,8 @@ use Rattle.std.specs.Prelude.{◌≡◌, ◌⊎◌, ◌<◌, ◌+◌, ℕ, List,
 use Rattle.std.specs.List.{flat_map}
 use Rattle.buck_record.specs.writing.Line.{line_of}
 use Rattle.buck_record.specs.writing.Written.{spelled}
-use Rattle.buck_stem.specs.declared.file.fault.StmFault.{StmFault}
-use Rattle.buck_stem.specs.Stem.{StemParts, stem_length}
+use Rattle.buck_stem.specs.declared.fault.StmFault.{StmFault}
+use Rattle.buck_stem_shape.specs.Stem.{StemParts, stem_length}
 use Rattle.buck_value.specs.declared.log.Log.{Log}
 use Rattle.buck_value.specs.Sheet.{SheetParts}
 use Rattle.buck_dp.specs.Best.{IsFirstBest, cutting_worth}

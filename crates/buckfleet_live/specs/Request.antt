@@ -24,12 +24,12 @@ use Rattle.buck_record.specs.checking.Check.{◌>>=◌, check, none_of}
 use Rattle.buck_record.specs.checking.Rules.{of_slot, has_no_strays, numbers_in, all_within, all_in_range}
 use Rattle.buck_record.specs.writing.Written.{spelled}
 use Rattle.buck_apt_instruction.specs.declared.slots.TheConstants.{LENGTHS}
-use Rattle.buck_stem.specs.declared.file.slots.TheConstants.{STEM, STARTS, NEEDED}
-use Rattle.buck_stem.specs.declared.file.fault.StmFault.{StmFault}
-use Rattle.buck_stem.specs.declared.file.fault.StmFault.TheVariants.{Head, Missing, Twice, Digits, Range, Order, Count}
-use Rattle.buck_stem.specs.file.Faults.{stm_numbers}
-use Rattle.buck_stem.specs.Stem.{StemParts}
-use Rattle.buck_stem.specs.file.Stm.{stm_of}
+use Rattle.buck_stem_shape.specs.declared.slots.TheConstants.{STEM, STARTS, NEEDED}
+use Rattle.buck_stem.specs.declared.fault.StmFault.{StmFault}
+use Rattle.buck_stem.specs.declared.fault.StmFault.TheVariants.{Head, Missing, Twice, Digits, Range, Order, Count}
+use Rattle.buck_stem.specs.Faults.{stm_numbers}
+use Rattle.buck_stem_shape.specs.Stem.{StemParts}
+use Rattle.buck_stem.specs.Stm.{stm_of}
 use Rattle.buck_value.specs.declared.log.Log.{Log}
 use Rattle.buck_book_journal.specs.Reading.{logs_of}
 use Rattle.buckfleet_live.specs.declared.slots.TheConstants.{HARVESTER, PREVIEW, OWN, HIGHEST_ASSORTMENT, MOST_OWN, TARGETS, STEM_ITEMS, AFTER_STEM, TABLE}

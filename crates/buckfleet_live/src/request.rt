@@ -2,8 +2,8 @@
 ghost use Rattle.std.specs.Prelude.{◌≡◌, ◌++◌, ◌<◌, ◌≤◌, ◌*◌, ◌%◌, ◌==◌, ◌&&◌, true, length, Ok, IfOk, IfSome, OnOk};
 ghost use Rattle.buck_record.specs.Reading.{Gives};
 ghost use Rattle.buck_record.specs.checking.Table.{is_in};
-ghost use Rattle.buck_stem.specs.file.Faults.{stm_numbers};
-ghost use Rattle.buck_stem.specs.file.Stm.{stm_of};
+ghost use Rattle.buck_stem.specs.Faults.{stm_numbers};
+ghost use Rattle.buck_stem.specs.Stm.{stm_of};
 ghost use Rattle.buck_book_journal.specs.Reading.{logs_of};
 ghost use Rattle.buckfleet_live.specs.Request.{
   are_low,
@@ -31,8 +31,9 @@ use buck_record::check::{all_absent, all_single, all_there, check, is_there};
 use buck_record::rules::{all_in_range, all_within, numbers_in};
 use buck_record::table::front;
 use buck_record::{FormFault, Listed, Memory, Numbered, Piece, RecordFault, pieces, put_numbers};
-use buck_stem::slots::{NEEDED, STARTS, STEM};
-use buck_stem::{Stem, StmFault, read_stm};
+use buck_stem::{StmFault, read_stm};
+use buck_stem_shape::Stem;
+use buck_stem_shape::slots::{NEEDED, STARTS, STEM};
 use buck_value::Log;
 use std::alloc::{AllocError, Global};
 

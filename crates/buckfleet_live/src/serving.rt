@@ -11,7 +11,7 @@ use crate::live::Live;
 use crate::replies::Replies;
 use buck_apt_instruction::Instruction;
 use buck_rule::{Rule, Standing};
-use buck_stem::Stem;
+use buck_stem_shape::Stem;
 use buckfleet_engine_files::{
     EngineFault, Make, Onlooker, Open, make_journal, open_inputs, read_instruction, write_text,
 };

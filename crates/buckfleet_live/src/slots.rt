@@ -1,6 +1,6 @@
 //! The items of a line of the input; those of a stem are as in a stem file.
 use buck_record::{Slot, slot};
-use buck_stem::slots::{SAMPLES, SPECIES, STEM, ZONES};
+use buck_stem_shape::slots::{SAMPLES, SPECIES, STEM, ZONES};
 
 /// Who asks; if it is absent, the first.
 pub(crate) const HARVESTER: Slot = slot!(950, 1);

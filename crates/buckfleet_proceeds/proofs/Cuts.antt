@@ -3,7 +3,7 @@ use Rattle.std.proofs.Common.{◌≡◌, ℕ, ◌+◌, ◌≤◌, List, [], ◌�
 use Rattle.std.proofs.lemmas.List.Sums.{sum_by-cons}
 use Rattle.std.proofs.lemmas.Option.{same_Some, slice_get-get_or}
 use Rattle.buck_apt_instruction.specs.Instruction.{InstructionParts}
-use Rattle.buck_stem.specs.Stem.{StemParts}
+use Rattle.buck_stem_shape.specs.Stem.{StemParts}
 use Rattle.buck_value.specs.declared.log.Log.{Log}
 use Rattle.buck_value.specs.Sheet.{SheetParts}
 use Rattle.buck_value.specs.Allowed.{IsAllowed, end_of}

@@ -7,7 +7,7 @@ use Rattle.std.proofs.lemmas.Bool.Decides.{eqb_tells}
 use Rattle.std.proofs.lemmas.List.Elements.{All-nil, All-cons, All-contains}
 use Rattle.std.proofs.lemmas.List.Sums.{sum_by_push, count_by-le-length}
 use Rattle.buck_apt_instruction.specs.Instruction.{AssortmentParts, InstructionParts, IsInstruction, IsWithin}
-use Rattle.buck_stem.specs.Stem.{StemParts, IsStem, stem_length}
+use Rattle.buck_stem_shape.specs.Stem.{StemParts, IsStem, stem_length}
 use Rattle.buck_value.specs.declared.log.Log.{Log}
 use Rattle.buck_value.specs.Sheet.{SheetParts}
 use Rattle.buck_value.specs.Allowed.{IsAllowed, end_of, worth_of}

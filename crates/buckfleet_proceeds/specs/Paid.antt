@@ -1,7 +1,7 @@
 -- What logs come to under an owner's instruction, at its base prices: a log that it doesn't allow isn't bought.
 use Rattle.std.specs.Prelude.{◌≡◌, ◌⊎◌, ℕ, ◌+◌, List, [], ◌∷◌, length, sum_by, slice_get, Some}
 use Rattle.buck_apt_instruction.specs.Instruction.{InstructionParts}
-use Rattle.buck_stem.specs.Stem.{StemParts}
+use Rattle.buck_stem_shape.specs.Stem.{StemParts}
 use Rattle.buck_value.specs.declared.log.Log.{Log}
 use Rattle.buck_value.specs.Allowed.{IsAllowed}
 use Rattle.buck_book_postings.specs.declared.posting.Posting.{Posting}

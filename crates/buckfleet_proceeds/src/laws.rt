@@ -1,7 +1,7 @@
 //! Laws of appraisals.
 ghost use Rattle.std.specs.Prelude.{List, ◌≤◌};
 ghost use Rattle.buck_apt_instruction.specs.Instruction.{InstructionParts};
-ghost use Rattle.buck_stem.specs.Stem.{StemParts};
+ghost use Rattle.buck_stem_shape.specs.Stem.{StemParts};
 ghost use Rattle.buck_value.specs.declared.log.Log.{Log};
 ghost use Rattle.buck_dp.specs.Best.{IsAdmissible, IsBest, cutting_worth};
 ghost use Rattle.buck_page_figures.specs.Figures.{base_sheet};

@@ -1,13 +1,13 @@
 //! What the logs of a stem come to under an owner's instruction.
 ghost use Rattle.std.specs.Prelude.{◌≡◌, ◌≤◌, List, All, length};
-ghost use Rattle.buck_stem.specs.Stem.{stem_length};
+ghost use Rattle.buck_stem_shape.specs.Stem.{stem_length};
 ghost use Rattle.buck_value.specs.declared.log.Log.{Log};
 ghost use Rattle.buck_value.specs.Allowed.{top_of};
 ghost use Rattle.buck_page_figures.specs.Figures.{log_volume};
 ghost use Rattle.buckfleet_proceeds.specs.inner.Logs.{AreAdded, AreFew, Fits, IsPaidAlone};
 
 use crate::paid::Paid;
-use buck_stem::Stem;
+use buck_stem_shape::Stem;
 use buck_value::{Log, Sheet, volume_of, worth_if_allowed};
 
 /// What a log comes to under a sheet of base prices.

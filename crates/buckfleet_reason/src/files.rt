@@ -113,7 +113,7 @@ pub fn stm_reason(alloc: Global, source: &Source<'_>, fault: &StmFault) -> Said 
     let file = Refused {
         alloc,
         source: *source,
-        rows: [&buck_stem::ITEMS, &[]],
+        rows: [&buck_stem_shape::ITEMS, &[]],
         kind: Kind::Stem,
     };
     stems_reason(&file, fault)

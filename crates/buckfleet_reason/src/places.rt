@@ -3,7 +3,7 @@ use crate::item::Item;
 use crate::source::Source;
 use buck_book_journal::slots::{CUT, DEMAND, SHEET};
 use buck_record::Slot;
-use buck_stem::slots::STEM;
+use buck_stem_shape::slots::STEM;
 
 impl<'a> Source<'a> {
     /// The item of a kind that has so many of its kind before it, if there is one.

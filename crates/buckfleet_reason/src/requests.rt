@@ -6,8 +6,9 @@ use crate::rows::{HARVESTER, NEW_TARGETS, REQUEST, Tag};
 use crate::source::{Said, Source};
 use crate::whose::Kind;
 use buck_record::Level;
-use buck_stem::slots::STEM;
-use buck_stem::{ITEMS, StmFault};
+use buck_stem::StmFault;
+use buck_stem_shape::ITEMS;
+use buck_stem_shape::slots::STEM;
 use std::alloc::Global;
 
 /// Whether an item of a stem stands before the stem's number.

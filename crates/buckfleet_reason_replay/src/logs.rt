@@ -1,7 +1,7 @@
 //! Logs that can't be cut from their stem.
 use buck_apt_instruction::{Assortment, Instruction};
 use buck_dp_own_logs::{Reason, reason_of};
-use buck_stem::{Stem, slots};
+use buck_stem_shape::{Stem, slots};
 use buck_value::Log;
 use std::fmt;
 

@@ -1,5 +1,5 @@
 //! How a stem differs from another.
-use buck_stem::Stem;
+use buck_stem_shape::Stem;
 use buckfleet_reason::Several;
 use std::fmt;
 

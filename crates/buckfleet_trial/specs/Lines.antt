@@ -5,7 +5,7 @@ use Rattle.std.specs.declared.sync.Arc.{Arc}
 use Rattle.std.specs.declared.vec.Vec.{Vec}
 use Rattle.std.specs.declared.alloc.Global.{Global}
 use Rattle.buck_apt_instruction.specs.Instruction.{InstructionParts}
-use Rattle.buck_stem.specs.declared.stem.Stem.{Stem}
+use Rattle.buck_stem_shape.specs.declared.stem.Stem.{Stem}
 use Rattle.buckfleet_tasks.specs.declared.combination.Combination.{Combination}
 use Rattle.buckfleet_trial_sweep.specs.Runs.{IsRunLine}
 use Rattle.buckfleet_trial.specs.declared.trial.Drawn.{Drawn}

@@ -11,7 +11,7 @@ ghost use Rattle.buckfleet_trial.specs.Inputs.{AnswersFiles, HasWanted, IsInputF
 ghost use Rattle.buckfleet_trial.specs.Running.{in_terms};
 
 use buck_book_postings::MOST_POSTINGS;
-use buck_stem::Stem;
+use buck_stem_shape::Stem;
 use buckfleet_engine_files::{EngineFault, Open, Workers, open_inputs};
 use buckfleet_engine_input::{Input, read_input};
 use buckfleet_terms_files::{TermsFault, open_more, read_wanted};

@@ -5,7 +5,7 @@ ghost use Rattle.buckfleet_trial_draws.specs.Draws.{order_of, shuffled, starts_f
 
 use crate::drawn::{below, shuffle};
 use buck_record::Memory;
-use buck_stem::Stem;
+use buck_stem_shape::Stem;
 use rand_core::SeedableRng;
 use rand_xoshiro::SplitMix64;
 use std::alloc::Global;

@@ -10,7 +10,7 @@ use Rattle.std.specs.declared.alloc.Global.{Global}
 use Rattle.buck_apt.specs.Apt.{apt_of}
 use Rattle.buck_apt_instruction.specs.Instruction.{InstructionParts}
 use Rattle.buck_apt_instruction.specs.Settings.{with_settings}
-use Rattle.buck_stem.specs.declared.stem.Stem.{Stem}
+use Rattle.buck_stem_shape.specs.declared.stem.Stem.{Stem}
 use Rattle.buck_book_postings.specs.declared.posting.TheConstants.{MOST_POSTINGS}
 use Rattle.buck_book_postings.specs.History.{HistoryParts}
 use Rattle.buck_page_cells.specs.Cells.{number_cell}

@@ -14,7 +14,7 @@ use buck_book_postings::{Book, CutFault};
 use buck_fleet_round_robin::cut_in_turn;
 use buck_record::Memory;
 use buck_rule::{NamedRule, Rule, Standing};
-use buck_stem::Stem;
+use buck_stem_shape::Stem;
 use buck_value::Sheet;
 use buckfleet_engine_files::EngineFault;
 use buckfleet_engine_input::Input;

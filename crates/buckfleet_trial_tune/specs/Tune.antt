@@ -8,7 +8,7 @@ use Rattle.buck_apt_instruction.specs.Instruction.{InstructionParts, classes}
 use Rattle.buck_apt_instruction.specs.Priced.{with_prices}
 use Rattle.buck_apt_instruction.specs.Settings.{SettingsParts, with_settings}
 use Rattle.buck_apt.specs.Text.{text_of}
-use Rattle.buck_stem.specs.declared.stem.Stem.{Stem}
+use Rattle.buck_stem_shape.specs.declared.stem.Stem.{Stem}
 use Rattle.buck_value.specs.Sheet.{base_prices}
 use Rattle.buck_rule.specs.declared.named.NamedRule.{NamedRule}
 use Rattle.buck_book_postings.specs.History.{HistoryParts, prices_at}

@@ -16,7 +16,7 @@ use buck_book_postings::{Parts, Posting};
 use buck_page_figures::number_at;
 use buck_page_text::half_up;
 use buck_record::Memory;
-use buck_stem::Stem;
+use buck_stem_shape::Stem;
 use buck_value::Sheet;
 use buckfleet_engine_files::{EngineFault, Onlooker, Open, SeveralThreads, Workers, write_text};
 use buckfleet_engine_input::Input;

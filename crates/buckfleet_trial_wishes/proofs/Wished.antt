@@ -12,7 +12,7 @@ use Rattle.std.proofs.lemmas.List.Sorted.{All-permutation, Contains-permutation,
 use Rattle.std.proofs.lemmas.Option.{get_or_from_slice_get, slice_get_within}
 use Rattle.buck_apt_instruction.specs.Instruction.{AssortmentParts, InstructionParts, IsAssortment, IsInstruction, classes_of}
 use Rattle.buck_apt_instruction.specs.Wanted.{MayBeWanted, with_targets}
-use Rattle.buck_stem.specs.declared.stem.Stem.{Stem}
+use Rattle.buck_stem_shape.specs.declared.stem.Stem.{Stem}
 use Rattle.buck_rule.specs.declared.named.NamedRule.{NamedRule}
 use Rattle.buck_book_postings.specs.Counts.{AreClassCounts}
 use Rattle.buck_book_postings.specs.Degree.{part_of}

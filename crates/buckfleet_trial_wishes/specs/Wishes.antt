@@ -7,7 +7,7 @@ use Rattle.std.specs.declared.alloc.Global.{Global}
 use Rattle.buck_apt_instruction.specs.Instruction.{AssortmentParts, InstructionParts, classes_of}
 use Rattle.buck_apt_instruction.specs.Settings.{SettingsParts, with_settings}
 use Rattle.buck_apt_instruction.specs.Wanted.{with_targets}
-use Rattle.buck_stem.specs.declared.stem.Stem.{Stem}
+use Rattle.buck_stem_shape.specs.declared.stem.Stem.{Stem}
 use Rattle.buck_book_postings.specs.Counts.{AreClassCounts}
 use Rattle.buck_book_postings.specs.Degree.{part_of}
 use Rattle.buck_book_postings.specs.History.{HistoryParts}

@@ -22,7 +22,7 @@ use crate::wish::{Told, Wish, put_degree, put_worth, tell_wish};
 use buck_apt_instruction::Instruction;
 use buck_record::Memory;
 use buck_rule::NamedRule;
-use buck_stem::Stem;
+use buck_stem_shape::Stem;
 use buckfleet_engine_files::{
     EngineFault, OneThread, RunOnlooker, SeveralThreads, number_of_threads, write_text,
 };

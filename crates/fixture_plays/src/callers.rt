@@ -7,7 +7,7 @@ ghost use Rattle.buck_fleet.specs.Crew.{IsCrew, parts_of};
 use buck_apt_instruction::Instruction;
 use buck_fleet::{CloseFault, Closed, Fleet, Gate, OpenFault, RunFault, Seat, run_fleet};
 use buck_rule::{Rule, Standing};
-use buck_stem::Stem;
+use buck_stem_shape::Stem;
 use std::alloc::Global;
 use std::marker::Brand;
 use std::sync::ledger::{Blank, Ledger};

@@ -5,7 +5,7 @@ use crate::callers::{DayFault, Evening, till_evening};
 use buck_book_postings::Posting;
 use buck_fleet::{Closed, Gate};
 use buck_rule::{Rule, Standing, steady};
-use buck_stem::Stem;
+use buck_stem_shape::Stem;
 use buck_value::{Log, Sheet};
 use fixture_samples::{saw_instruction, uniform_stem};
 use std::alloc::Global;

@@ -12,7 +12,7 @@ use buck_apt_instruction::Instruction;
 use buck_book_postings::Plan;
 use buck_fleet::{CloseFault, Closed, CutFault, Fleet, OpenFault, RetargetFault, Seat, TryFault};
 use buck_rule::{Rule, Standing};
-use buck_stem::Stem;
+use buck_stem_shape::Stem;
 use buck_value::Sheet;
 use std::alloc::Global;
 use std::marker::Brand;

@@ -1,5 +1,5 @@
 //! Stems.
-use buck_stem::Stem;
+use buck_stem_shape::Stem;
 use std::alloc::Global;
 use std::test::Fail;
 

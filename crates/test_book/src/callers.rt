@@ -6,7 +6,7 @@ ghost use Rattle.buck_book_postings.specs.History.{in_force};
 
 use buck_book_postings::{Book, Demand, DemandRefusal, Entry, Plan, Posting, Refusal};
 use buck_rule::Standing;
-use buck_stem::Stem;
+use buck_stem_shape::Stem;
 use std::alloc::Global;
 use std::sync::Arc;
 

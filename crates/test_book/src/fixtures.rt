@@ -2,7 +2,7 @@
 use buck_apt_instruction::Instruction;
 use buck_book_postings::Book;
 use buck_book_writer::journal_text;
-use buck_stem::Stem;
+use buck_stem_shape::Stem;
 use fixture_samples::{instruction_of, uniform_stem};
 use std::alloc::Global;
 use std::fmt::{Debug, Display};

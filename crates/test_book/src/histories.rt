@@ -6,7 +6,7 @@ use crate::callers::{cut, demand};
 use crate::fixtures::*;
 use buck_book_postings::Book;
 use buck_rule::{Rule, Standing, step};
-use buck_stem::Stem;
+use buck_stem_shape::Stem;
 use std::sync::Arc;
 use std::test::Fail;
 

@@ -11,7 +11,7 @@ use buck_book_postings::{Book, Plan, Posting};
 use buck_book_reader::read_journal;
 use buck_book_replay::replay;
 use buck_rule::{Rule, Standing, step};
-use buck_stem::Stem;
+use buck_stem_shape::Stem;
 use fixture_samples::{SHORT_JOURNAL, edited, saw_instruction, two_stem_journal};
 use std::sync::Arc;
 use std::test::Fail;

@@ -2,7 +2,7 @@
 //! failing in turn.
 use crate::fixtures::{base_of, log};
 use buck_dp::{Cutting, Planner, best};
-use buck_stem::Stem;
+use buck_stem_shape::Stem;
 use buck_value::{Prepared, Sheet};
 use fixture_samples::{SAW_AND_POLE, uniform_stem};
 use std::sync::Arc;

@@ -1,7 +1,7 @@
 //! Cuttings that someone names: worths and reasons worked out by hand.
 use crate::fixtures::{base_of, log};
 use buck_dp_own_logs::{Judged, Reason, judge};
-use buck_stem::Stem;
+use buck_stem_shape::Stem;
 use buck_value::{Log, Sheet};
 use fixture_samples::stem_of;
 use std::test::Fail;

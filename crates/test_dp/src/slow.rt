@@ -1,6 +1,6 @@
 //! The first of the best cuttings by a plain search: every list of allowed logs is tried.
 use crate::fixtures::log;
-use buck_stem::Stem;
+use buck_stem_shape::Stem;
 use buck_value::{Log, Sheet, worth_if_allowed};
 use std::alloc::{AllocError, Global};
 

@@ -4,7 +4,7 @@ ghost use Rattle.std.specs.Prelude.{◌<◌};
 use crate::fixtures::sheet_with;
 use crate::slow::{are_first_best, pieces_of};
 use buck_dp::Planner;
-use buck_stem::Stem;
+use buck_stem_shape::Stem;
 use buck_value::Sheet;
 use fixture_samples::{stem_of, uniform_stem};
 use std::sync::Arc;

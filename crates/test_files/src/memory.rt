@@ -2,7 +2,8 @@
 //! allocation failing in turn.
 use buck_apt::{AptFault, read_apt};
 use buck_record::Memory;
-use buck_stem::{Profile, ProfileLists, Stem, StmFault, read_stm};
+use buck_stem::{StmFault, read_stm};
+use buck_stem_shape::{Profile, ProfileLists, Stem};
 use fixture_samples::{SAW, uniform_stem};
 use std::alloc::Global;
 use std::test::Fail;

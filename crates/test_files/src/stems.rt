@@ -1,5 +1,5 @@
 //! Diameters and grades of stems, worked out by hand.
-use buck_stem::{Profile, Stem};
+use buck_stem_shape::{Profile, Stem};
 use fixture_samples::stem_of;
 use std::alloc::Global;
 use std::test::Fail;

@@ -1,7 +1,8 @@
 //! Texts of faults.
 use buck_apt::AptFault;
 use buck_record::{Memory, RecordFault};
-use buck_stem::{StemFault, StmFault};
+use buck_stem::StmFault;
+use buck_stem_shape::StemFault;
 use std::alloc::Global;
 use std::fmt::Display;
 

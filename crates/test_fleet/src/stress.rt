@@ -2,7 +2,7 @@
 use crate::judge::is_right;
 use buck_fleet::{Closed, NoGate};
 use buck_rule::{Rule, Standing, step};
-use buck_stem::Stem;
+use buck_stem_shape::Stem;
 use fixture_plays::fixtures::*;
 use fixture_samples::uniform_stem;
 use std::alloc::Global;

@@ -2,7 +2,7 @@
 use buck_book_postings::Posting;
 use buck_fleet_round_robin::cut_in_turn;
 use buck_rule::{Rule, Standing, step};
-use buck_stem::Stem;
+use buck_stem_shape::Stem;
 use fixture_plays::fixtures::list_of;
 use fixture_samples::saw_instruction;
 use std::alloc::Global;

@@ -5,7 +5,7 @@ ghost use Rattle.buck_rule.specs.Stored.{Answers};
 use buck_apt_instruction::Instruction;
 use buck_fleet_world::{Event, Memory, Stage, StepFault, World};
 use buck_rule::Standing;
-use buck_stem::Stem;
+use buck_stem_shape::Stem;
 use fixture_samples::{saw_instruction, uniform_stem};
 use std::sync::Arc;
 use std::test::Fail;

@@ -1,7 +1,7 @@
 -- What the conditions of this crate say of a log.
 use Rattle.std.specs.Prelude.{◌≡◌, ◌≢◌, ℕ, slice_get, Some}
 use Rattle.buck_apt_instruction.specs.Instruction.{AssortmentParts}
-use Rattle.buck_stem.specs.Stem.{StemParts}
+use Rattle.buck_stem_shape.specs.Stem.{StemParts}
 use Rattle.buck_value.specs.declared.log.Log.{Log}
 use Rattle.buck_value.specs.Sheet.{SheetParts, price_of}
 use Rattle.buck_value.specs.Volume.{volume, worth_at}

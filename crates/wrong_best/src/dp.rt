@@ -7,7 +7,7 @@ ghost use Rattle.buck_dp.specs.Order.{IsLogBefore};
 
 use buck_dp::{Cutting, Planner, admissible, best, worth, worth_if_admissible};
 use buck_record::Memory;
-use buck_stem::Stem;
+use buck_stem_shape::Stem;
 use buck_value::{Log, Sheet, log_worth};
 use std::alloc::Global;
 use std::sync::Arc;

@@ -6,7 +6,7 @@ ghost use Rattle.buck_dp_own_logs.specs.Reasons.{Applies};
 
 use buck_apt_instruction::Instruction;
 use buck_dp_own_logs::{Judged, Reason, judge, reason_of};
-use buck_stem::Stem;
+use buck_stem_shape::Stem;
 use buck_value::{Log, Sheet};
 
 /// A log that starts before the one before it ends is let in.

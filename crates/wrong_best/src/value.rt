@@ -3,7 +3,7 @@ ghost use Rattle.std.specs.Prelude.{◌≡◌, ◌≢◌, ◌+◌, ◌*◌, ◌<
 ghost use Rattle.std.specs.Int.{bit_at};
 ghost use Rattle.std.specs.Option.{option_map};
 ghost use Rattle.buck_apt_instruction.specs.Instruction.{IsClass, classes, index_of};
-ghost use Rattle.buck_stem.specs.Stem.{stem_length, diameter_at, grade_at, HasGradesOf};
+ghost use Rattle.buck_stem_shape.specs.Stem.{stem_length, diameter_at, grade_at, HasGradesOf};
 ghost use Rattle.buck_value.specs.Sheet.{IsPriceAt, base_prices, price_of, span};
 ghost use Rattle.buck_value.specs.Allowed.{IsAllowed, top_of, end_of, top_diameter, row_at, column_of, worth_of};
 ghost use Rattle.buck_value.specs.Prepared.{points_of, lengths_of, log_at};
@@ -11,7 +11,7 @@ ghost use Rattle.wrong_best.specs.Logs.{ItsAssortment, AreOfTwoRows, worth_with_
 
 use buck_apt_instruction::{Assortment, Class, Instruction};
 use buck_record::Memory;
-use buck_stem::{Grades, Stem};
+use buck_stem_shape::{Grades, Stem};
 use buck_value::{
     Log, Prepared, Sheet, bought_row, class_of, log_worth, row_of, takes, valuation_of_allowed,
     volume_of, worth_if_allowed, worth_of_piece,

@@ -6,7 +6,7 @@ use Rattle.buck_book_postings.specs.declared.posting.Posting.TheVariants.{Cut, D
 use Rattle.buck_book_postings.specs.Entry.{EntryParts, DemandParts}
 use Rattle.buck_book_postings.specs.History.{HistoryParts, IsEnd}
 use Rattle.buck_book_postings.specs.Book.{IsNext}
-use Rattle.buck_stem.specs.Stem.{StemParts}
+use Rattle.buck_stem_shape.specs.Stem.{StemParts}
 use Rattle.buck_value.specs.declared.log.Log.{Log}
 use Rattle.buck_value.specs.Sheet.{SheetParts}
 use Rattle.buck_value.specs.Allowed.{IsAllowed, worth_of}

@@ -16,7 +16,7 @@ use buck_book_postings::{
     Refusal, TargetsFault, check_targets,
 };
 use buck_rule::{Rule, Standing};
-use buck_stem::Stem;
+use buck_stem_shape::Stem;
 use buck_value::{Log, Sheet};
 use std::alloc::Global;
 use std::sync::Arc;

@@ -5,7 +5,7 @@ use Rattle.buckfleet_engine_files.specs.declared.fault.EngineFault.{EngineFault}
 use Rattle.buckfleet_engine_files.specs.declared.fault.EngineFault.TheVariants.{Read, Write, Apt, Stm, Journal, JournalOf, Replay, ReplayOf, Check, Seats, Full, Memory, Close}
 use Rattle.buckfleet_engine_files.specs.Faults.{status_of, status_or}
 use Rattle.buck_apt.specs.Faults.{apt_numbers}
-use Rattle.buck_stem.specs.file.Faults.{stm_numbers}
+use Rattle.buck_stem.specs.Faults.{stm_numbers}
 use Rattle.buck_book_journal.specs.Faults.{journal_numbers, replay_numbers}
 use Rattle.buck_fleet_close_fault.specs.Faults.{close_numbers}
 use Rattle.buckfleet_terms_files.specs.declared.fault.TermsFault.{TermsFault}

@@ -3,8 +3,8 @@ ghost use Rattle.std.specs.Prelude.{◌≡◌, Ok, Err, List, length};
 ghost use Rattle.buck_apt.specs.declared.fault.AptFault.{AptFault};
 ghost use Rattle.buck_apt.specs.Apt.{apt_of};
 ghost use Rattle.buck_apt_instruction.specs.Instruction.{InstructionParts};
-ghost use Rattle.buck_stem.specs.Stem.{StemParts};
-ghost use Rattle.buck_stem.specs.file.Stm.{stm_of};
+ghost use Rattle.buck_stem_shape.specs.Stem.{StemParts};
+ghost use Rattle.buck_stem.specs.Stm.{stm_of};
 
 use buck_c_calls::{buckfleet_buck, buckfleet_check, buckfleet_table};
 use std::alloc::Global;

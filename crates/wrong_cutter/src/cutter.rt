@@ -7,7 +7,7 @@ ghost use Rattle.buck_book_journal.specs.Written.{journal_text};
 use buck_book_cutter::Cutter;
 use buck_book_postings::{CutFault, Memory};
 use buck_rule::Standing;
-use buck_stem::Stem;
+use buck_stem_shape::Stem;
 use std::alloc::Global;
 use std::sync::Arc;
 

@@ -3,8 +3,8 @@ use Rattle.std.proofs.Common.{◌≡◌, ◌≢◌, ℕ, inl, inr, List, [], ◌
 use Rattle.std.specs.Prelude.{◌⊎◌}
 unfoldable use Rattle.std.specs.Fmt.{digits}
 use Rattle.std.specs.Io.KnownBytes.{Appends}
-use Rattle.buck_stem.specs.declared.file.fault.StmFault.{StmFault}
-use Rattle.buck_stem.specs.Stem.{StemParts}
+use Rattle.buck_stem.specs.declared.fault.StmFault.{StmFault}
+use Rattle.buck_stem_shape.specs.Stem.{StemParts}
 use Rattle.buck_value.specs.declared.log.Log.{Log}
 use Rattle.buck_dp.specs.Best.{IsFirstBest, cutting_worth}
 use Rattle.buck_dp_own_logs.specs.declared.reason.Reason.TheVariants.{Species}

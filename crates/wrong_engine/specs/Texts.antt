@@ -1,7 +1,7 @@
 -- The texts that wrong bodies would print of a bucking.
 use Rattle.std.specs.Prelude.{ℕ, ◌/◌, List, [], ◌∷◌, ◌++◌, length, take, drop, codes}
 use Rattle.std.specs.List.{flat_map}
-use Rattle.buck_stem.specs.Stem.{StemParts, diameter_at}
+use Rattle.buck_stem_shape.specs.Stem.{StemParts, diameter_at}
 use Rattle.buck_value.specs.declared.log.Log.{Log}
 use Rattle.buck_value.specs.Sheet.{SheetParts}
 use Rattle.buck_value.specs.Allowed.{class_of, worth_of}

@@ -1,7 +1,7 @@
 //! Wrong bodies of a fleet over files.
 ghost use Rattle.std.specs.Prelude.{◌≡◌, ◌≢◌, ◌<◌, List, ℕ, Ok, length};
-ghost use Rattle.buck_stem.specs.Stem.{StemParts};
-ghost use Rattle.buck_stem.specs.file.Stm.{stm_of};
+ghost use Rattle.buck_stem_shape.specs.Stem.{StemParts};
+ghost use Rattle.buck_stem.specs.Stm.{stm_of};
 ghost use Rattle.buck_book_postings.specs.History.{HistoryParts};
 ghost use Rattle.buckfleet_engine_input.specs.Harvest.{AreFirsts};
 ghost use Rattle.buckfleet_engine_text.specs.Report.{ending_of, report_of};

@@ -3,7 +3,7 @@
 
 ghost use Rattle.std.specs.Prelude.{◌≡◌, ◌≢◌, [], ◌∷◌, List, Some, Ok};
 ghost use Rattle.buck_rule.specs.Stored.{Answers};
-ghost use Rattle.buck_stem.specs.Stem.{StemParts};
+ghost use Rattle.buck_stem_shape.specs.Stem.{StemParts};
 ghost use Rattle.buck_value.specs.declared.log.Log.{Log};
 ghost use Rattle.buck_dp.specs.Best.{IsFirstBest};
 ghost use Rattle.buck_dp_own_logs.specs.declared.reason.Reason.TheVariants.{Species};

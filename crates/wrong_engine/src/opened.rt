@@ -2,7 +2,7 @@
 ghost use Rattle.std.specs.Prelude.{◌≡◌, ◌≢◌, length, true, false, IsOk, IsTrue, None};
 ghost use Rattle.std.specs.List.{before_first, after_first};
 ghost use Rattle.buck_apt.specs.Apt.{apt_of};
-ghost use Rattle.buck_stem.specs.file.Stm.{stm_of};
+ghost use Rattle.buck_stem.specs.Stm.{stm_of};
 ghost use Rattle.buckfleet_engine.specs.run.Bucking.{is_bar};
 
 use buck_rule::NamedRule;

@@ -6,7 +6,7 @@ ghost use Rattle.buckfleet_engine_text.specs.Bucking.{CutStem, IsBucking, base_s
 ghost use Rattle.wrong_engine.specs.Texts.{butt_lines, half_lines, last_total, text_with};
 
 use buck_apt_instruction::Instruction;
-use buck_stem::Stem;
+use buck_stem_shape::Stem;
 use buckfleet_engine_text::buck_text;
 use std::alloc::Global;
 

@@ -1,8 +1,8 @@
 //! Wrong bodies of a check that ties a journal to stem files and to a rule.
 ghost use Rattle.std.specs.Prelude.{◌≡◌, ◌≢◌, List, [], Ok};
 ghost use Rattle.buck_apt_instruction.specs.Instruction.{InstructionParts};
-ghost use Rattle.buck_stem.specs.Stem.{StemParts};
-ghost use Rattle.buck_stem.specs.file.Stm.{stm_of};
+ghost use Rattle.buck_stem_shape.specs.Stem.{StemParts};
+ghost use Rattle.buck_stem.specs.Stm.{stm_of};
 ghost use Rattle.buck_book_journal.specs.Journal.{JournalParts, history_of};
 ghost use Rattle.buck_book_journal.specs.Reading.{journal_of};
 ghost use Rattle.buck_rule.specs.declared.named.NamedRule.TheVariants.{Linear};

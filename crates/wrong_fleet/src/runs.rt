@@ -5,7 +5,7 @@ ghost use Rattle.buck_fleet.specs.Fleet.{IsSeatIn};
 
 use buck_fleet::{Fleet, Gate, RunFault, Seat, run_fleet};
 use buck_rule::Standing;
-use buck_stem::Stem;
+use buck_stem_shape::Stem;
 use std::alloc::Global;
 use std::sync::ledger::Ledger;
 use std::sync::{Arc, Wait};

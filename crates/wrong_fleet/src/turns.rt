@@ -6,7 +6,7 @@ use buck_apt_instruction::Instruction;
 use buck_book_postings::{CutFault, Posting};
 use buck_fleet_round_robin::cut_in_turn;
 use buck_rule::{Rule, Standing};
-use buck_stem::Stem;
+use buck_stem_shape::Stem;
 use std::alloc::Global;
 use std::sync::Arc;
 

@@ -3,7 +3,7 @@ use Rattle.std.specs.Prelude.{◌≡◌, ◌≢◌, ℕ, ◌<◌, List, [], ◌�
 use Rattle.buck_apt_instruction.specs.declared.class.Class.{Class}
 use Rattle.buck_apt_instruction.specs.Instruction.{InstructionParts, index_of}
 use Rattle.buck_apt_instruction.specs.Grades.{grade_free}
-use Rattle.buck_stem.specs.Stem.{stem_length}
+use Rattle.buck_stem_shape.specs.Stem.{stem_length}
 use Rattle.buck_value.specs.declared.log.Log.{Log}
 use Rattle.buck_value.specs.Sheet.{price_of}
 use Rattle.buck_value.specs.Allowed.{class_of}

@@ -6,7 +6,7 @@ use buck_apt_instruction::Instruction;
 use buck_book_postings::{CutFault, DemandRefusal};
 use buck_c_session::{FellFault, Felled, KeptBook, Zone};
 use buck_rule::NamedRule;
-use buck_stem::Stem;
+use buck_stem_shape::Stem;
 use std::alloc::Global;
 use std::sync::Arc;
 

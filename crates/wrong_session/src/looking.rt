@@ -1,6 +1,6 @@
 //! Wrong answers about a felled stem that is looked at before it is cut.
 ghost use Rattle.std.specs.Prelude.{◌≡◌, ◌≢◌, ◌<◌, ◌≤◌, [], ◌∷◌};
-ghost use Rattle.buck_stem.specs.Stem.{IsStem};
+ghost use Rattle.buck_stem_shape.specs.Stem.{IsStem};
 ghost use Rattle.buck_value.specs.Allowed.{IsAllowed};
 ghost use Rattle.buck_c_session.specs.Felled.{stem_by};
 ghost use Rattle.buck_c_session.specs.Looked.{log_by};

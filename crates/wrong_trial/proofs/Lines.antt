@@ -1,8 +1,8 @@
 -- What stands in a table over files.
 use Rattle.std.proofs.Common.{◌≡◌, ◌≤◌, ℕ, List, [], ◌∷◌, ◌++◌, length, Option, Some, Result, Ok, Err, refl, sym, ap, subst, ◌∙◌, append_assoc, arith}
 use Rattle.std.specs.Prelude.{sum_by, slice_index_or}
-use Rattle.buck_stem.specs.Stem.{StemParts}
-use Rattle.buck_stem.specs.file.Stm.{stm_of}
+use Rattle.buck_stem_shape.specs.Stem.{StemParts}
+use Rattle.buck_stem.specs.Stm.{stm_of}
 use Rattle.buckfleet_engine_files.specs.declared.fault.EngineFault.{EngineFault}
 use Rattle.buckfleet_engine_files.specs.declared.fault.EngineFault.TheVariants.{Full}
 use Rattle.buck_rule.specs.declared.named.NamedRule.{NamedRule}

@@ -7,9 +7,9 @@ use Rattle.std.specs.declared.alloc.Global.{Global}
 use Rattle.buck_apt.specs.Apt.{apt_of}
 use Rattle.buck_apt_instruction.specs.Instruction.{InstructionParts}
 use Rattle.buck_apt_instruction.specs.Wanted.{with_targets}
-use Rattle.buck_stem.specs.Stem.{StemParts}
-use Rattle.buck_stem.specs.declared.stem.Stem.{Stem}
-use Rattle.buck_stem.specs.file.Stm.{stm_of}
+use Rattle.buck_stem_shape.specs.Stem.{StemParts}
+use Rattle.buck_stem_shape.specs.declared.stem.Stem.{Stem}
+use Rattle.buck_stem.specs.Stm.{stm_of}
 use Rattle.buck_book_postings.specs.History.{HistoryParts}
 use Rattle.buck_book_postings.specs.Replies.{stems_at}
 use Rattle.buckfleet_trial_draws.specs.declared.orders.Draws.{Draws}

@@ -7,7 +7,7 @@ use Rattle.std.specs.declared.vec.Vec.{Vec}
 use Rattle.std.specs.declared.alloc.Global.{Global}
 use Rattle.buck_apt_instruction.specs.Instruction.{InstructionParts}
 use Rattle.buck_apt_instruction.specs.Settings.{SettingsParts, with_settings}
-use Rattle.buck_stem.specs.declared.stem.Stem.{Stem}
+use Rattle.buck_stem_shape.specs.declared.stem.Stem.{Stem}
 use Rattle.buck_book_postings.specs.Posting.{opening_targets}
 use Rattle.buckfleet_trial_draws.specs.declared.orders.Draws.{Draws}
 use Rattle.buck_rule.specs.declared.named.NamedRule.{NamedRule}

@@ -2,7 +2,7 @@
 ghost use Rattle.std.specs.Prelude.{◌≡◌, ◌≢◌, [], ◌∷◌, map};
 ghost use Rattle.std.specs.Arc.{arc_value};
 
-use buck_stem::Stem;
+use buck_stem_shape::Stem;
 use buckfleet_trial_draws::{Draws, below, order_from, shuffle, starts_of};
 use rand_core::SeedableRng;
 use rand_xoshiro::SplitMix64;

@@ -1,7 +1,7 @@
 //! Wrong bodies of a table over files.
 ghost use Rattle.std.specs.Prelude.{◌≡◌, ◌≤◌, ◌++◌, ℕ, List, [], Some, Ok, length, map};
-ghost use Rattle.buck_stem.specs.Stem.{StemParts};
-ghost use Rattle.buck_stem.specs.file.Stm.{stm_of};
+ghost use Rattle.buck_stem_shape.specs.Stem.{StemParts};
+ghost use Rattle.buck_stem.specs.Stm.{stm_of};
 ghost use Rattle.buck_book_postings.specs.History.{HistoryParts};
 ghost use Rattle.buck_rule.specs.declared.named.NamedRule.TheVariants.{Steady, Step};
 ghost use Rattle.buckfleet_engine_files.specs.Ruled.{FollowsRule};

@@ -5,7 +5,7 @@ ghost use Rattle.std.specs.declared.vec.Vec.{Vec};
 ghost use Rattle.std.specs.declared.alloc.Global.{Global};
 ghost use Rattle.buck_apt_instruction.specs.Instruction.{InstructionParts};
 ghost use Rattle.buck_apt_instruction.specs.Settings.{with_settings};
-ghost use Rattle.buck_stem.specs.declared.stem.Stem.{Stem};
+ghost use Rattle.buck_stem_shape.specs.declared.stem.Stem.{Stem};
 ghost use Rattle.buck_book_postings.specs.Posting.{opening_targets};
 ghost use Rattle.buckfleet_trial.specs.Inputs.{SaysInput, held_with};
 ghost use Rattle.buckfleet_trial.specs.Trial.{starts_of};

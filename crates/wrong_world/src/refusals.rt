@@ -7,7 +7,7 @@ ghost use Rattle.buck_fleet_world.specs.Refused.{IsFull, IsBelow};
 
 use buck_fleet_world::{Event, Stage, StepFault, World};
 use buck_rule::Standing;
-use buck_stem::Stem;
+use buck_stem_shape::Stem;
 use std::alloc::Global;
 use std::sync::Arc;
 

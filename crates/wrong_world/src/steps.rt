@@ -6,7 +6,7 @@ ghost use Rattle.buck_fleet_world.specs.World.{IsHarvester, at};
 
 use buck_fleet_world::{Event, Stage, World};
 use buck_rule::Standing;
-use buck_stem::Stem;
+use buck_stem_shape::Stem;
 use std::alloc::Global;
 use std::sync::Arc;
 

@@ -1,7 +1,7 @@
 -- The places of the classes of a plan's logs, among all classes: assortment by assortment and row by row.
 use Rattle.std.specs.Prelude.{◌≡◌, ℕ, ◌<◌, List, map, All}
 use Rattle.buck_apt_instruction.specs.Instruction.{InstructionParts, classes, index_of}
-use Rattle.buck_stem.specs.Stem.{StemParts}
+use Rattle.buck_stem_shape.specs.Stem.{StemParts}
 use Rattle.buck_value.specs.declared.log.Log.{Log}
 use Rattle.buck_value.specs.Allowed.{class_of}
 

@@ -13,8 +13,8 @@ pub use Rattle.buck_dp.specs.declared.pricing.Candidate.{Candidate}
 pub use Rattle.buck_dp.specs.declared.pricing.Term.{Term}
 pub use Rattle.buck_dp.specs.declared.assortment_sets.WoodEntry.{WoodEntry}
 pub use Rattle.buck_dp.specs.declared.assortment_sets.AssortmentSet.{AssortmentSet}
-pub use Rattle.buck_stem.specs.Stem.{HasGradesOf, IsStem, StemParts, stem_length}
-pub use Rattle.buck_stem.specs.points.Profile.{IsMaskBetween, ProfileParts, profile_of}
+pub use Rattle.buck_stem_shape.specs.Stem.{HasGradesOf, IsStem, StemParts, stem_length}
+pub use Rattle.buck_stem_shape.specs.points.Profile.{IsMaskBetween, ProfileParts, profile_of}
 pub use Rattle.buck_value.specs.Allowed.{IsAllowed, IsBought, column_of, end_of, log_of, row_at, top_of, worth_of}
 pub use Rattle.buck_value.specs.Sheet.{IsSheet, SheetParts, price_of, sheet_of}
 pub use Rattle.buck_value.specs.Volume.{volume, worth_at}

@@ -1,7 +1,7 @@
 -- Logs to which no reason before their length's applies.
 use Rattle.std.specs.Prelude.{◌≡◌, ℕ, Some, slice_get}
 use Rattle.buck_apt_instruction.specs.Instruction.{InstructionParts, AssortmentParts}
-use Rattle.buck_stem.specs.Stem.{StemParts}
+use Rattle.buck_stem_shape.specs.Stem.{StemParts}
 use Rattle.buck_value.specs.declared.log.Log.{Log}
 use Rattle.buck_dp_own_logs.specs.Reasons.{NoneBelow}
 

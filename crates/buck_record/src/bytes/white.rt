@@ -14,9 +14,25 @@ pub fn is_white(byte: u8) -> bool
 pub(crate) fn trim_start(bytes: &[u8]) -> &[u8]
     ensures { result.now ≡ trim_start bytes.now }
 {
-    let mut rest = bytes;
+    let mut rest = past_fours(bytes);
     while let [first, after @ ..] = rest {
         if !is_white(*first) {
+            return rest;
+        }
+        rest = after;
+    }
+    rest
+}
+
+/// The bytes without some that are white at their start: four at a time, because a jump for each may cost more than all
+/// else.
+#[tactic(auto, using(crate::proofs::WhiteLemmas::start_past_four))]
+fn past_fours(bytes: &[u8]) -> &[u8]
+    ensures { trim_start result.now ≡ trim_start bytes.now }
+{
+    let mut rest = bytes;
+    while let [a, b, c, d, after @ ..] = rest {
+        if !(is_white(*a) & is_white(*b) & is_white(*c) & is_white(*d)) {
             return rest;
         }
         rest = after;

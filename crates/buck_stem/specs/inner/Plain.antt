@@ -7,10 +7,10 @@ use Rattle.buck_record.specs.Item.{ItemParts}
 use Rattle.buck_record.specs.bytes.Record.{numbers_of}
 use Rattle.buck_record.specs.pass.Cursor.{HasItemsIn, item_in}
 use Rattle.buck_record.specs.declared.slot.Slot.{Slot}
-use Rattle.buck_stem.specs.declared.file.draft.Draft.{Draft}
-use Rattle.buck_stem.specs.declared.file.slots.TheConstants.{STEM, SPECIES, SAMPLES, ZONES}
-use Rattle.buck_stem.specs.Stem.{StemParts}
-use Rattle.buck_stem.specs.file.Stm.{parts_of, table, stm_of}
+use Rattle.buck_stem.specs.declared.draft.Draft.{Draft}
+use Rattle.buck_stem_shape.specs.declared.slots.TheConstants.{STEM, SPECIES, SAMPLES, ZONES}
+use Rattle.buck_stem_shape.specs.Stem.{StemParts}
+use Rattle.buck_stem.specs.Stm.{parts_of, table, stm_of}
 use Rattle.buck_stem.specs.inner.Ready.{IsReadyDraft}
 
 -- the zones' item, if there is one

@@ -10,7 +10,7 @@ use buck_apt_instruction::Instruction;
 use buck_book_postings::{MOST_POSTINGS, Plan};
 use buck_fleet::{Closed, Fleet, Gate, OpenFault, RunFault, Seat, run_fleet};
 use buck_rule::{Rule, Standing};
-use buck_stem::Stem;
+use buck_stem_shape::Stem;
 use buckfleet_engine_files::{EngineFault, Onlooker};
 use std::alloc::Global;
 use std::marker::Brand;

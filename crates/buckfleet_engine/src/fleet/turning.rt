@@ -20,7 +20,7 @@ use buck_apt_instruction::{Instruction, Settings};
 use buck_book_postings::{CutFault, Parts};
 use buck_fleet_round_robin::cut_in_turn;
 use buck_rule::{Rule, Standing};
-use buck_stem::Stem;
+use buck_stem_shape::Stem;
 use buckfleet_engine_files::{EngineFault, Nobody, OneThread, Onlooker};
 use buckfleet_engine_input::{Input, number_of_stems, read_input_with};
 use std::alloc::Global;

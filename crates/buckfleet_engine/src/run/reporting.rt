@@ -15,7 +15,7 @@ use buck_apt_instruction::{Instruction, Settings};
 use buck_book_journal::{Journal, ReplayFault};
 use buck_book_postings::Walk;
 use buck_book_replay::replay_to_end;
-use buck_stem::Stem;
+use buck_stem_shape::Stem;
 use buckfleet_engine_files::{
     EngineFault, Nobody, OneThread, Onlooker, read_instruction_with, read_postings, write_text,
 };

@@ -1,6 +1,6 @@
 use Rattle.std.proofs.Common.{◌≡◌, ◌↔◌, ℕ, ◌*◌, ◌+◌, length, Some, slice_get, slice_index, sym, refl, ◌∙◌, ap, inl, inr, arith, true≢false}
 use Rattle.buck_apt_instruction.specs.Instruction.{InstructionParts}
-use Rattle.buck_stem.specs.Stem.{HasGradesOf}
+use Rattle.buck_stem_shape.specs.Stem.{HasGradesOf}
 use Rattle.buck_value.proofs.Classes.{column_some, column_none, column_is}
 use Rattle.buck_value.specs.Allowed.{top_of, top_diameter, row_at, column_of}
 use Rattle.buck_value.specs.Wood.{TakesWood}

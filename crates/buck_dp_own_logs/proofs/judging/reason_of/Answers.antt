@@ -3,7 +3,7 @@ use Rattle.std.proofs.lemmas.Option.{slice_get_read}
 use Rattle.std.specs.Prelude.{IfNone}
 use Rattle.std.proofs.lemmas.Grind.{common_steps}
 use Rattle.buck_apt_instruction.specs.Instruction.{InstructionParts, AssortmentParts}
-use Rattle.buck_stem.specs.Stem.{StemParts}
+use Rattle.buck_stem_shape.specs.Stem.{StemParts}
 use Rattle.buck_value.specs.declared.log.Log.{Log}
 use Rattle.buck_value.specs.Allowed.{IsAllowed}
 use Rattle.buck_dp_own_logs.specs.declared.reason.Reason.{Reason}

@@ -1,5 +1,5 @@
 use Rattle.std.proofs.Common.{◌≡◌, [], ◌∷◌, refl, sym, subst, ap, ◌∙◌, rules}
-use Rattle.buck_stem.specs.Stem.{StemParts}
+use Rattle.buck_stem_shape.specs.Stem.{StemParts}
 use Rattle.buck_value.specs.Sheet.{SheetParts}
 use Rattle.buck_dp.specs.Best.{IsAdmissible, IsFirstBest, cutting_worth}
 use Rattle.buck_book_postings.specs.Entry.{EntryParts}

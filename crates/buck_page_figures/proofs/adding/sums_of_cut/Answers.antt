@@ -1,6 +1,6 @@
 use Rattle.std.proofs.Common.{◌≡◌, ◌∙◌, arith, rules, subst, ap}
 use Rattle.std.specs.Prelude.{List}
-use Rattle.buck_stem.specs.Stem.{StemParts, stem_length}
+use Rattle.buck_stem_shape.specs.Stem.{StemParts, stem_length}
 use Rattle.buck_value.specs.declared.log.Log.{Log}
 use Rattle.buck_dp.proofs.Lists.{each_allowed}
 use Rattle.buck_page_figures.specs.inner.Adding.{IsWoodOf}

@@ -1,7 +1,7 @@
 use Rattle.std.proofs.Common.{◌≡◌, ◌+◌, ◌-◌, List, [], inl, inr, length, sym, subst, ◌∙◌, arith}
 use Rattle.std.proofs.lemmas.Bool.{cases_lt}
 use Rattle.std.proofs.lemmas.List.{get_or_past, length-map}
-use Rattle.buck_stem.specs.Stem.{StemParts}
+use Rattle.buck_stem_shape.specs.Stem.{StemParts}
 use Rattle.buckfleet_engine_cross_check.specs.Ties.{DifferBy, stems_of_file}
 use Rattle.buckfleet_engine_cross_check.specs.inner.Tie.{stems_cut_in, stems_in_lists}
 use Rattle.buckfleet_engine_cross_check.proofs.Compared.{cut_nothing, cut_of_history}

@@ -1,6 +1,6 @@
 use Rattle.std.proofs.Common.{rules, ◌≡◌, ◌+◌, ◌-◌, ◌<◌, ◌∙◌, ℕ, List, Option, Ok, drop, length, arith, subst, set, length-set}
 use Rattle.std.proofs.lemmas.List.{length-map}
-use Rattle.buck_stem.specs.file.Stm.{stm_of}
+use Rattle.buck_stem.specs.Stm.{stm_of}
 use Rattle.buckfleet_engine_files.specs.Reading.{Says}
 use Rattle.buckfleet_engine_files.proofs.Lists.{same_place, same_rest}
 use Rattle.buckfleet_engine_cross_check.proofs.TieAnswers.{file_lost, file_refused, files_more, stopped_at}

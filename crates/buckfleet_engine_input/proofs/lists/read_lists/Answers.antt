@@ -1,6 +1,6 @@
 use Rattle.std.proofs.Common.{rules, ◌<◌, ◌∙◌, ℕ, List, Option, Ok, length, arith, subst, length-set}
 use Rattle.std.proofs.lemmas.List.{length-map}
-use Rattle.buck_stem.specs.file.Stm.{stm_of}
+use Rattle.buck_stem.specs.Stm.{stm_of}
 use Rattle.buck_book_postings.specs.Replies.{stems_of}
 use Rattle.buckfleet_engine_files.specs.Reading.{Says}
 use Rattle.buckfleet_engine_input.proofs.ListLemmas.{lists_more, memory_at, refused_at}

@@ -1,5 +1,5 @@
 use Rattle.std.proofs.Common.{◌≡◌, ◌∙◌, length, ap, subst, refl, arith, rules}
-use Rattle.buck_stem.specs.Stem.{IsStem, StemParts}
+use Rattle.buck_stem_shape.specs.Stem.{IsStem, StemParts}
 use Rattle.buck_value.specs.Sheet.{SheetParts}
 use Rattle.buck_dp.specs.Best.{IsFirstBest}
 use Rattle.buck_page_figures.specs.Figures.{base_sheet}

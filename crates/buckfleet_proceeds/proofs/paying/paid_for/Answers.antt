@@ -1,5 +1,5 @@
 use Rattle.std.proofs.Common.{◌+◌, arith}
-use Rattle.buck_stem.proofs.Diameters.{diameter_at-le}
+use Rattle.buck_stem_shape.proofs.Diameters.{diameter_at-le}
 use Rattle.buckfleet_proceeds.proofs.paying.paid_for.Goals as goal
 
 pub volume_of-requires-clause-diameter : goal.volume_of-requires-clause-diameter

@@ -1,6 +1,0 @@
-use Rattle.std.proofs.Common.{◌≡◌}
-use Rattle.buck_stem.specs.Stem.{least_to}
-use Rattle.buck_stem.proofs.stem.least.Given as goal
-
-abbrev pub invariant-loop-i : goal.invariant-loop-i
-invariant-loop-i l = l.low ≡ least_to l.samples l.i

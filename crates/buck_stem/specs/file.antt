@@ -1,2 +1,0 @@
-pub mod Stm
-pub mod Faults

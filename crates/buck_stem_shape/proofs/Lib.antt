@@ -1,0 +1,4 @@
+pub mod Diameters
+pub mod Zones
+pub mod RunLemmas
+pub mod Tables

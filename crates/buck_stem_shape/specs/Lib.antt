@@ -1,0 +1,3 @@
+pub mod Stem
+pub mod points
+pub mod inner
