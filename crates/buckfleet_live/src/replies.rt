@@ -5,8 +5,8 @@ use buck_apt_instruction::Instruction;
 use buckfleet_engine_files::EngineFault;
 use std::io;
 
-/// A writer of answers. It hears of each line and of its answer before that is written to it, and may say elsewhere, to
-/// whoever looks on, what was wrong.
+/// A writer of answers. It hears of each line and of its answer before that is written to it, and may say elsewhere, as
+/// on standard error, what was wrong.
 pub trait Replies: io::Write {
     /// The next line is answered: its bytes, as many as a line may have, and whether it has no more; the instruction
     /// of the history; and the answer, a text or the fault whose line is answered. A line without an item has an empty

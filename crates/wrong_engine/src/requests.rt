@@ -52,7 +52,7 @@ pub fn journal_of_other_requests<F: Drop>(alloc: Global, live: &Live<F>, wrong: 
     }
 }
 
-/// What is said to whoever looks on stands among the answers.
+/// What is said elsewhere of a refused request stands among the answers.
 pub fn words_among_the_answers(
     alloc: Global,
     instruction: &Instruction,
