@@ -1,5 +1,5 @@
 //! White bytes, and texts without them at their ends.
-ghost use Rattle.std.specs.Prelude.{◌≡◌};
+ghost use Rattle.std.specs.Prelude.{◌≡◌, ◌≤◌, length};
 ghost use Rattle.buck_record.specs.bytes.White.{is_white, trim_start, trim_end, trim};
 
 /// Whether the byte is a space, a tab, a line feed or a carriage return.
@@ -14,12 +14,12 @@ pub fn is_white(byte: u8) -> bool
 pub(crate) fn trim_start(bytes: &[u8]) -> &[u8]
     ensures { result.now ≡ trim_start bytes.now }
 {
-    let mut rest = past_fours(bytes);
+    let mut rest = bytes;
     while let [first, after @ ..] = rest {
         if !is_white(*first) {
             return rest;
         }
-        rest = after;
+        rest = past_fours(after);
     }
     rest
 }
@@ -28,8 +28,16 @@ pub(crate) fn trim_start(bytes: &[u8]) -> &[u8]
 /// else.
 #[tactic(auto, using(crate::proofs::WhiteLemmas::start_past_four))]
 fn past_fours(bytes: &[u8]) -> &[u8]
-    ensures { trim_start result.now ≡ trim_start bytes.now }
+    ensures same { trim_start result.now ≡ trim_start bytes.now }
+    ensures shorter { length result.now ≤ length bytes.now }
 {
+    let [first, ..] = bytes else {
+        return bytes;
+    };
+    // Most texts have none, and this alone is cheaper than four at once.
+    if !is_white(*first) {
+        return bytes;
+    }
     let mut rest = bytes;
     while let [a, b, c, d, after @ ..] = rest {
         if !(is_white(*a) & is_white(*b) & is_white(*c) & is_white(*d)) {
