@@ -1,6 +1,6 @@
 //! Reads a board, or puts sheets up on it with a raise each, on one thread or several.
 
-ghost use Rattle.std.specs.Prelude.{◌≡◌};
+ghost use Rattle.std.specs.Prelude.{◌≡◌, All, IfSome};
 ghost use Rattle.buck_board.specs.Board.{IsSeatOf};
 
 use crate::input::one_saw_log;
@@ -43,6 +43,56 @@ fn put_on<R: Wait>(
     Some(())
 }
 
+/// The base sheet of the instruction.
+fn base_sheet(alloc: Global) -> Option<Arc<Sheet>>
+    ensures { IfSome result (λ s. s.value.version ≡ 0) }
+{
+    let Some(instruction) = one_saw_log(alloc) else {
+        return None;
+    };
+    let Ok(sheet) = Sheet::base(alloc, instruction) else {
+        return None;
+    };
+    match Arc::new(alloc, sheet) {
+        Ok(sheet) => Some(sheet),
+        Err(_) => None,
+    }
+}
+
+/// A sheet of version 1 with the prices of another.
+fn next_sheet(alloc: Global, base: &Sheet) -> Option<Arc<Sheet>> {
+    let instruction = base.instruction().clone().ok()?;
+    let prices = base.prices().to_vec(alloc).ok()?;
+    let sheet = Sheet::with_prices(instruction, 1, prices).ok()?;
+    Arc::new(alloc, sheet).ok()
+}
+
+/// Reads or puts up so often on each seat, on a thread of its own.
+fn call_all<R: Threads + Wait + Sync>(
+    rt: &R,
+    alloc: Global,
+    board: &Board,
+    seats: &mut [BoardSeat],
+    sheet: Option<&Arc<Sheet>>,
+    number: u32,
+)
+    requires { All (IsSeatOf board.now) seats.old }
+{
+    let calling = |_: usize, seat: &mut BoardSeat|
+        requires { IsSeatOf board.now seat.old }
+    {
+        match sheet {
+            Some(sheet) => {
+                put_on(rt, alloc, board, &mut *seat, sheet, number);
+            }
+            None => {
+                read_on(board, &mut *seat, number);
+            }
+        }
+    };
+    thread::for_each_mut(rt, seats, 64, &calling);
+}
+
 /// Reads version 1 so often on each of so many threads, or puts up a sheet of it as often. It prints nothing.
 pub fn run<R: Threads + Wait + Sync>(
     rt: &R,
@@ -57,35 +107,17 @@ pub fn run<R: Threads + Wait + Sync>(
     if threads > 64 {
         return None;
     }
-    let Some(instruction) = one_saw_log(alloc) else {
-        return None;
-    };
-    let Ok(base) = Sheet::base(alloc, instruction) else {
-        return None;
-    };
-    let instruction = base.instruction().clone().ok()?;
-    let prices = base.prices().to_vec(alloc).ok()?;
-    let sheet = Sheet::with_prices(instruction, 1, prices).ok()?;
-    let sheet = Arc::new(alloc, sheet).ok()?;
-    let Ok(base) = Arc::new(alloc, base) else {
-        return None;
-    };
+    let base = base_sheet(alloc)?;
+    let sheet = next_sheet(alloc, &base)?;
     let Ok((board, mut seats)) = Board::open(rt, alloc, threads, base) else {
         return None;
     };
+    let seats = seats.as_mut_slice();
     if is_read {
-        board.put_up(rt, alloc, sheet.clone().ok()?).ok()?;
+        board.put_up(rt, alloc, sheet).ok()?;
+        call_all(rt, alloc, &board, seats, None, number);
+    } else {
+        call_all(rt, alloc, &board, seats, Some(&sheet), number);
     }
-    let board = &board;
-    let calling = |_: usize, seat: &mut BoardSeat|
-        requires { IsSeatOf board.now seat.old }
-    {
-        if is_read {
-            read_on(board, &mut *seat, number);
-        } else {
-            put_on(rt, alloc, board, &mut *seat, &sheet, number);
-        }
-    };
-    thread::for_each_mut(rt, seats.as_mut_slice(), 64, &calling);
     Some(())
 }

@@ -16,6 +16,19 @@ use std::time::{Clock, Instant};
 /// How many entries make a period of the instruction.
 const PERIOD: u32 = 100;
 
+/// The nanoseconds that each call took, by what was called.
+#[derive(Drop)]
+struct Times {
+    /// The clock, read twice with nothing between.
+    clock: Vec<u64>,
+    /// A plan: the part of each that all plans of a period took.
+    plan: Vec<u64>,
+    /// `prepare` and `commit` of an entry after which the period goes on.
+    within: Vec<u64>,
+    /// The same of an entry that ends its period, for which the next sheet is made.
+    ending: Vec<u64>,
+}
+
 /// The nanoseconds since the clock was read.
 fn nanos_since<R: Clock>(rt: &R, start: Instant) -> Option<u64> {
     let took = start.elapsed(rt).ok()?;
@@ -32,77 +45,112 @@ fn plans_of(alloc: Global, sheet: &Arc<Sheet>, stem: &Arc<Stem>) -> Option<Vec<P
     Some(plans)
 }
 
-/// Plans and commits so many periods, and gives the nanoseconds that each call took, by what was called: the clock, read
-/// twice with nothing between; a plan, as the part of each that all plans of a period took; `prepare` and `commit` of an
-/// entry after which the period goes on; and the same of an entry that ends its period, for which the next sheet is made.
-/// The entry is let go after its time is taken.
+/// Prepares and commits a plan, and gives the nanoseconds that both took. The entry is let go after that.
+fn commit_one<R: Clock, F: Fn(&Standing) -> u64 + Drop>(
+    rt: &R,
+    alloc: Global,
+    book: &mut Book<F>,
+    plan: Plan,
+) -> Option<u64>
+    requires { Answers F.Fn book.old.rule }
+    ensures { book.new.rule ≡ book.old.rule }
+{
+    let Ok(start) = Instant::now(rt) else {
+        return None;
+    };
+    let Ok(ready) = book.prepare(alloc, &plan) else {
+        return None;
+    };
+    let _entry = book.commit(ready, 1, plan);
+    nanos_since(rt, start)
+}
+
+/// Plans and commits a period.
+fn commit_period<R: Clock, F: Fn(&Standing) -> u64 + Drop>(
+    rt: &R,
+    alloc: Global,
+    book: &mut Book<F>,
+    stem: &Arc<Stem>,
+    times: &mut Times,
+) -> Option<()>
+    requires { Answers F.Fn book.old.rule }
+    ensures { book.new.rule ≡ book.old.rule }
+{
+    let Ok(start) = Instant::now(rt) else {
+        return None;
+    };
+    times.clock.push(nanos_since(rt, start)?).ok()?;
+    let Ok(start) = Instant::now(rt) else {
+        return None;
+    };
+    let plans = plans_of(alloc, book.sheet(), stem)?;
+    let nanos = nanos_since(rt, start)? / u64::from(PERIOD);
+    times.plan.push(nanos).ok()?;
+    for plan in plans {
+        let version = book.version();
+        let nanos = commit_one(rt, alloc, book, plan)?;
+        let kind = if book.version() != version {
+            &mut times.ending
+        } else {
+            &mut times.within
+        };
+        kind.push(nanos).ok()?;
+    }
+    Some(())
+}
+
+/// Plans and commits so many periods.
 fn commit_all<R: Clock, F: Fn(&Standing) -> u64 + Drop>(
     rt: &R,
     alloc: Global,
     book: &mut Book<F>,
     stem: &Arc<Stem>,
     periods: u32,
-) -> Option<[(&'static str, Vec<u64>); 4]>
+) -> Option<Times>
     requires { Answers F.Fn book.old.rule }
 {
-    let number = periods as usize;
-    let mut clock = Vec::with_capacity(alloc, number).ok()?;
-    let mut planning = Vec::with_capacity(alloc, number).ok()?;
-    let mut within = Vec::with_capacity(alloc, number * (PERIOD as usize - 1)).ok()?;
-    let mut ending = Vec::with_capacity(alloc, number).ok()?;
+    let mut times = Times {
+        clock: Vec::new(alloc),
+        plan: Vec::new(alloc),
+        within: Vec::new(alloc),
+        ending: Vec::new(alloc),
+    };
     for _ in 0..periods {
-        let start = Instant::now(rt).ok()?;
-        clock.push(nanos_since(rt, start)?).ok()?;
-        let start = Instant::now(rt).ok()?;
-        let plans = plans_of(alloc, book.sheet(), stem)?;
-        planning
-            .push(nanos_since(rt, start)? / u64::from(PERIOD))
-            .ok()?;
-        for plan in plans {
-            let version = book.version();
-            let Ok(start) = Instant::now(rt) else {
-                return None;
-            };
-            let Ok(ready) = book.prepare(alloc, &plan) else {
-                return None;
-            };
-            let _entry = book.commit(ready, 1, plan);
-            let nanos = nanos_since(rt, start)?;
-            if book.version() != version {
-                ending.push(nanos).ok()?;
-            } else {
-                within.push(nanos).ok()?;
-            }
-        }
+        commit_period(rt, alloc, book, stem, &mut times)?;
     }
-    Some([
-        ("clock", clock),
-        ("plan", planning),
-        ("within", within),
-        ("ending", ending),
-    ])
+    Some(times)
 }
 
-/// Commits so many periods to a new book, of a stem of 3 m of which one log is cut. It prints how many entries and
-/// sheets the book has, and beside it, as errors are, the least, the median and the 90th percentile of what was
-/// measured of each kind of call, after its name.
+/// Prints the least, the median and the 90th percentile of the times of a kind of call, after its name.
+fn show(rt: &HostRuntime, name: &str, mut times: Vec<u64>) {
+    times.sort_unstable();
+    let least = times.first().copied().unwrap_or(0);
+    let median = times.get(times.len() / 2).copied().unwrap_or(0);
+    let most = times.get(times.len() / 10 * 9).copied().unwrap_or(0);
+    let _ = eprintln!(rt; "{name} {least} {median} {most}");
+}
+
+/// A stem of 3 m, of which one log is cut.
+fn short_stem(alloc: Global) -> Option<Arc<Stem>> {
+    let samples = vec![in alloc; 250; 31].ok()?;
+    let stem = Stem::make(alloc, 1, 1, samples, Vec::new(alloc)).ok()?;
+    Arc::new(alloc, stem).ok()
+}
+
+/// Commits so many periods to a new book. It prints how many entries and sheets the book has, and beside it, as errors
+/// are, what was measured.
 pub fn run(rt: &HostRuntime, periods: u32) -> Option<()> {
     let alloc = rt.alloc();
     let instruction = one_saw_log(alloc)?;
-    let samples = vec![in alloc; 250; 31].ok()?;
-    let stem = Stem::make(alloc, 1, 1, samples, Vec::new(alloc)).ok()?;
-    let stem = Arc::new(alloc, stem).ok()?;
+    let stem = short_stem(alloc)?;
     let rule = Rule::new(|s: &Standing| step(s));
     let mut book = Book::open(alloc, instruction, rule, 1_000_000).ok()?;
-    let kinds = commit_all(rt, alloc, &mut book, &stem, periods)?;
+    let times = commit_all(rt, alloc, &mut book, &stem, periods)?;
     let (entries, sheets) = (book.len(), book.sheets().len());
     let _ = println!(rt; "{entries} entries, {sheets} sheets");
-    for (name, mut times) in kinds {
-        times.sort_unstable();
-        let least = times.first().copied().unwrap_or(0);
-        let median = times.get(times.len() / 2).copied().unwrap_or(0);
-        let most = times.get(times.len() / 10 * 9).copied().unwrap_or(0);
-        let _ = eprintln!(rt; "{name} {least} {median} {most}");
-    }
+    show(rt, "clock", times.clock);
+    show(rt, "plan", times.plan);
+    show(rt, "within", times.within);
+    show(rt, "ending", times.ending);
     Some(())
 }

@@ -86,6 +86,30 @@ fn cut<R: Threads + Wait + Clock + Sync, G: Gate + Sync>(
     run_of::<Brand, R, G>(rt, alloc, blank, instruction, lists, gate)
 }
 
+/// Cuts the lists by a fleet. Beside it are the nanoseconds that the run took and 0, or how many plans were made without
+/// the lock and how many of these weren't made at the first attempt.
+fn measured<R: Threads + Wait + Clock + Sync>(
+    rt: &R,
+    alloc: Global,
+    is_time: bool,
+    instruction: Arc<Instruction>,
+    lists: &[Vec<Arc<Stem>>],
+) -> Option<(Closed, u128, u64)>
+    requires { (0 < length lists.now) × (length lists.now ≤ 64) }
+{
+    if is_time {
+        let (closed, took) = cut(rt, alloc, instruction, lists, &NoGate)?;
+        return Some((closed, took, 0));
+    }
+    let gate = Count {
+        plans: AtomicU64::new(0),
+        again: AtomicU64::new(0),
+    };
+    let (closed, _) = cut(rt, alloc, instruction, lists, &gate)?;
+    let plans = gate.plans.load(Ordering::SeqCst);
+    Some((closed, u128::from(plans), gate.again.load(Ordering::SeqCst)))
+}
+
 /// Times a run of a harvest, or counts its plans. The words: how many harvesters, an instruction file and stem files,
 /// whose stems are dealt out to the harvesters in turn. It prints how many entries and sheets the history has, and
 /// beside it, as errors are, how many nanoseconds the run took, or how many plans were made without the lock and how
@@ -105,18 +129,13 @@ pub fn run<R: Threads + Wait + Clock + Sync>(
     if lists.len() > 64 {
         return None;
     }
-    let (closed, first, second) = if is_time {
-        let (closed, took) = cut(rt, host.alloc(), instruction, lists.as_slice(), &NoGate)?;
-        (closed, took, 0u64)
-    } else {
-        let gate = Count {
-            plans: AtomicU64::new(0),
-            again: AtomicU64::new(0),
-        };
-        let (closed, _) = cut(rt, host.alloc(), instruction, lists.as_slice(), &gate)?;
-        let plans = gate.plans.load(Ordering::SeqCst);
-        (closed, u128::from(plans), gate.again.load(Ordering::SeqCst))
-    };
+    let (closed, first, second) = measured(
+        rt,
+        host.alloc(),
+        is_time,
+        instruction,
+        lists.as_slice(),
+    )?;
     let (entries, sheets) = (closed.entries().len(), closed.sheets().len());
     let _ = println!(host; "{entries} entries, {sheets} sheets");
     let _ = eprintln!(host; "{first} {second}");

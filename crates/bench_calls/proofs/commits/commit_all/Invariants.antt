@@ -5,8 +5,3 @@ abbrev pub invariant-loop : goal.invariant-loop
 invariant-loop g l = record {
   rule : l.book.rule ≡ l.fn.book.rule;
 }
-
-abbrev pub invariant-loop-plan : goal.invariant-loop-plan
-invariant-loop-plan g l = record {
-  rule : l.book.rule ≡ l.fn.book.rule;
-}
